@@ -1,0 +1,4 @@
+pub mod Amounts
+pub mod Layout
+pub mod Cases
+pub mod Shown
