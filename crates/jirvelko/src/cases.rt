@@ -1,6 +1,5 @@
 //! `jirvelko case`: the eight fields of a case, or its refusal.
 
-use std::env::Args;
 use std::error::AnyError;
 use std::fs;
 use std::io;
@@ -90,7 +89,7 @@ pub fn show_sample(rt: &LibcRuntime) -> Result<(), AnyError> {
     Ok(())
 }
 
-pub fn show_files(rt: &LibcRuntime, files: Args) -> Result<(), AnyError> {
+pub fn show_files(rt: &LibcRuntime, files: &[String]) -> Result<(), AnyError> {
     for file in files {
         match fs::read(rt, file.as_str()) {
             Ok(bytes) => {

@@ -1,0 +1,4 @@
+pub mod Truths
+pub mod Values
+pub mod Texts
+pub mod Steps

@@ -1,0 +1,4 @@
+pub mod Steps
+pub mod OneTree
+pub mod Joins
+pub mod Whole
