@@ -6,9 +6,11 @@ use std::error::AnyError;
 use std::fs;
 
 mod cases;
+mod ordering;
 mod weighing;
 
-const USAGE: &str = "usage: jirvelko [case FILE.. | weigh TEXT [f0=NUMBER ..] | script FILE]";
+const USAGE: &str =
+    "usage: jirvelko [samples | case FILE.. | weigh TEXT [f0=NUMBER ..] | script FILE]";
 
 fn main(rt: LibcRuntime) -> Result<(), AnyError> {
     let result = run(&rt);
@@ -39,13 +41,15 @@ fn call(rt: &LibcRuntime, words: &[String]) -> Result<(), AnyError> {
     match command.as_str() {
         "case" => cases::show_files(rt, rest),
         "weigh" => weighing::show(rt, rest),
+        "samples" => show_samples(rt),
         _ => Err(USAGE.into()),
     }
 }
 
 fn show_samples(rt: &LibcRuntime) -> Result<(), AnyError> {
     cases::show_sample(rt)?;
-    weighing::show_sample(rt)
+    weighing::show_sample(rt)?;
+    ordering::show_sample(rt)
 }
 
 /// Each line of the file is one call, its words separated by ` | `.

@@ -1,0 +1,5 @@
+pub mod Contents
+pub mod Kinds
+pub mod Least
+pub mod Refusals
+pub mod Takes
