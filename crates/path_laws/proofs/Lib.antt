@@ -1,0 +1,9 @@
+pub mod Free
+pub mod Listing
+pub mod Marks
+pub mod NeverStuck
+pub mod Orders
+pub mod Paths
+pub mod Pigeonhole
+pub mod Spread
+pub mod WorkedOut

@@ -1,0 +1,5 @@
+pub mod Free
+pub mod Marks
+pub mod Paths
+pub mod Ranks
+pub mod Spread

@@ -1,0 +1,1 @@
+//! Paths of links, cycles and the rank order, with what is true of them: definitions and proofs alone.
