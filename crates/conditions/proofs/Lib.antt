@@ -1,3 +1,4 @@
 pub mod Parts
 pub mod Reading
 pub mod Whole
+pub mod Within
