@@ -1,5 +1,7 @@
 //! Condition texts with the value, or the place of the fault, that each must have.
 
+#![tactic(auto)]
+
 #[cfg(test)]
 mod expected;
 #[cfg(test)]

@@ -1,5 +1,7 @@
 //! Definitions with the flow that each gives, or with the cause and place of its refusal.
 
+#![tactic(auto)]
+
 #[cfg(test)]
 mod bytes;
 #[cfg(test)]

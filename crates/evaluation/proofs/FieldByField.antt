@@ -7,7 +7,7 @@ use Rattle.values.specs.declared.field.Field.{Field}
 use Rattle.values.specs.declared.field.Field.TheVariants.{Blank}
 use Rattle.values.specs.declared.field.FieldNumber.{FieldNumber}
 use Rattle.values.specs.Layout.{field_at}
-use Rattle.values.proofs.Same.{same_container}
+use Rattle.values.specs.Same.{same_container}
 use Rattle.parts.specs.declared.Connector.{Connector}
 use Rattle.layout.specs.Layout.{Parts}
 use Rattle.rules.specs.declared.refusal.RuleRefusal.TheVariants.{BadConnector}

@@ -1,5 +1,7 @@
 //! Evaluation: what a flow comes to on a case, with a partner.
 
+#![tactic(auto)]
+
 pub mod evaluated;
 pub mod evaluating;
 mod inputs;

@@ -1,5 +1,7 @@
 //! What a flow comes to, over an abstract plan: there is one evaluation, and treating activities by rank computes it.
 
+#![tactic(auto)]
+
 use partners::fault::Fault;
 use values::container::Container;
 

@@ -1,5 +1,7 @@
 //! The library's calls for hosts in C.
 
+#![tactic(auto)]
+
 ghost use Rattle.std.specs.Prelude.{◌≡◌};
 ghost use Rattle.host.specs.Verdicts.{Told};
 

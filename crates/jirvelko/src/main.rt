@@ -1,5 +1,7 @@
 //! The library's calls from the command line.
 
+#![tactic(auto)]
+
 use std::alloc::Global;
 use std::{env, fs};
 

@@ -1,5 +1,7 @@
 //! The layout of a definition: reading its bytes into a draft, or refusing them with a cause and a place.
 
+#![tactic(auto)]
+
 mod draft;
 mod reader;
 mod refusal;

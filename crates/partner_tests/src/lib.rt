@@ -1,5 +1,7 @@
 //! Tests of rule tables, retry and router, and one worked example as a theorem.
 
+#![tactic(auto)]
+
 ghost use Rattle.partner_tests.specs.Examples.{ThreeTriesOverSeven};
 
 #[cfg(test)]

@@ -1,5 +1,7 @@
 //! Partners: what carries out the operations of a flow, and layers over partners.
 
+#![tactic(auto)]
+
 pub mod fault;
 pub mod partner;
 pub mod refusal;

@@ -1,5 +1,7 @@
 //! The records of a definition, as its bytes have them.
 
+#![tactic(auto)]
+
 /// An activity: its operation, its priority, and its flags.
 #[derive(Clone, Copy, PartialEq, Eq, Debug)]
 pub struct Activity {

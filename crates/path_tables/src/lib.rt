@@ -1,5 +1,7 @@
 //! Sets and pairs of activities, and the table of what each reaches.
 
+#![tactic(auto)]
+
 mod closure;
 mod pairs;
 mod sets;

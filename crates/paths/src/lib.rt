@@ -1,5 +1,7 @@
 //! Paths of links, the least activity on a cycle, and the order of the activities by rank.
 
+#![tactic(auto)]
+
 mod cycles;
 mod order;
 mod ranks;

@@ -1,5 +1,7 @@
 //! A pool over lent places, for any kind of element that has an order.
 
+#![tactic(auto)]
+
 mod held;
 mod kinds;
 mod order;

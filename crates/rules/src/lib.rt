@@ -1,5 +1,7 @@
 //! The rules of a definition, checked one after the other.
 
+#![tactic(auto)]
+
 ghost use Rattle.layout.specs.Drafts.{parts_of};
 ghost use Rattle.rules.specs.Rules.{RulesChecked, OneRule};
 

@@ -11,7 +11,7 @@ use Rattle.values.specs.declared.field.Field.{Field}
 use Rattle.values.specs.declared.field.Field.TheVariants.{Blank, Number}
 use Rattle.values.specs.declared.field.FieldNumber.{FieldNumber}
 use Rattle.values.specs.Layout.{signed_bytes, tagged, field_bytes}
-use Rattle.values.proofs.Same.{same_number}
+use Rattle.values.specs.Same.{same_number}
 use Rattle.values.proofs.Encodings.{signed_same, same_field, wide_field}
 use Rattle.values.proofs.Records.{length_joined, same_from_joined}
 use Rattle.partners.specs.Answers.{fault_code}

@@ -1,5 +1,7 @@
 //! Rule tables: partners whose answers are read from bytes.
 
+#![tactic(auto)]
+
 pub mod fit;
 mod numbers;
 pub mod outcome;

@@ -10,7 +10,7 @@ use Rattle.values.specs.declared.container.Container.{Container}
 use Rattle.values.specs.Amounts.{InRange, size}
 use Rattle.values.specs.Layout.{lowest_first, complement, signed_bytes, tagged, tag_number, field_bytes}
 use Rattle.values.specs.Cases.{case_bytes}
-use Rattle.values.proofs.Same.{same_amount, same_container}
+use Rattle.values.specs.Same.{same_amount, same_container}
 use Rattle.values.proofs.Records.{same_from_joined}
 
 head_same : (a b : ℕ) (xs ys : List ℕ) → a ∷ xs ≡ b ∷ ys → a ≡ b

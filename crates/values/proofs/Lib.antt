@@ -1,4 +1,3 @@
-pub mod Same
 pub mod Records
 pub mod Encodings
 pub mod Verdicts

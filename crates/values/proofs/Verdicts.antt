@@ -8,7 +8,7 @@ use Rattle.values.specs.declared.case.refusal.CaseRefusal.{CaseRefusal}
 use Rattle.values.specs.declared.case.refusal.CaseRefusal.TheVariants.{Length, BadField}
 use Rattle.values.specs.Layout.{field_at, field_bytes}
 use Rattle.values.specs.Cases.{case_bytes, slot, FirstBad, CaseRefused, CaseRead}
-use Rattle.values.proofs.Same.{same_number}
+use Rattle.values.specs.Same.{same_number}
 use Rattle.values.proofs.Encodings.{same_case, wide_field}
 use Rattle.values.proofs.Records.{length_joined, slot_joined, joined_from_slots}
 

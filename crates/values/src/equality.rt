@@ -1,34 +1,40 @@
 //! Two amounts, fields or containers are equal where they hold the same.
 
 ghost use Rattle.std.specs.Prelude.{◌≡◌, Decides};
-ghost use Rattle.std.specs.Cmp.Rules.{comparing};
-ghost use Rattle.std.proofs.Common.{rules, arith};
-ghost use Rattle.std.specs.Cmp as Keys;
+ghost use Rattle.std.specs.Cmp as Comparisons;
+ghost use Rattle.values.specs.Equality.{amount_eq, field_eq, container_eq};
+ghost use Rattle.values.specs.Equal.{amount_eq_decides, field_eq_decides, container_eq_decides};
 
 use crate::amount::Amount;
 use crate::container::Container;
 use crate::field::Field;
 
 impl PartialEq for Amount {
-    ghost equals = { λ a b r. Decides r (a ≡ b) };
+    ghost eq = { amount_eq };
 
-    ghost laws = { Keys.partial_equiv_from_equiv (first_of (Prim.search (comparing, rules), Prim.grind (arith, Self.row.coded.inj))) };
+    ghost laws = { Comparisons.partial_equiv_from_equiv (Comparisons.decided amount_eq amount_eq_decides) };
 
-    fn eq(&self, other: &Amount) -> bool {
+    fn eq(&self, other: &Amount) -> bool
+        ensures value { result ≡ amount_eq self.now other.now }
+        ensures same { Decides result (self.now ≡ other.now) }
+    {
         self.get() == other.get()
     }
 }
 
 impl Eq for Amount {
-    ghost laws = { first_of (Prim.search (comparing, rules), Prim.grind (arith, Self.row.coded.inj)) };
+    ghost laws = { Comparisons.decided amount_eq amount_eq_decides };
 }
 
 impl PartialEq for Field {
-    ghost equals = { λ f g r. Decides r (f ≡ g) };
+    ghost eq = { field_eq };
 
-    ghost laws = { Keys.partial_equiv_from_equiv (Prim.search (comparing, rules)) };
+    ghost laws = { Comparisons.partial_equiv_from_equiv (Comparisons.decided field_eq field_eq_decides) };
 
-    fn eq(&self, other: &Field) -> bool {
+    fn eq(&self, other: &Field) -> bool
+        ensures value { result ≡ field_eq self.now other.now }
+        ensures same { Decides result (self.now ≡ other.now) }
+    {
         match (self, other) {
             (Field::Blank, Field::Blank) => true,
             (Field::Number(a), Field::Number(b)) => a == b,
@@ -38,19 +44,22 @@ impl PartialEq for Field {
 }
 
 impl Eq for Field {
-    ghost laws = { Prim.search (comparing, rules) };
+    ghost laws = { Comparisons.decided field_eq field_eq_decides };
 }
 
 impl PartialEq for Container {
-    ghost equals = { λ c d r. Decides r (c ≡ d) };
+    ghost eq = { container_eq };
 
-    ghost laws = { Keys.partial_equiv_from_equiv (first_of (Prim.search (comparing, rules), Prim.grind (arith, Self.row.coded.inj))) };
+    ghost laws = { Comparisons.partial_equiv_from_equiv (Comparisons.decided container_eq container_eq_decides) };
 
-    fn eq(&self, other: &Container) -> bool {
+    fn eq(&self, other: &Container) -> bool
+        ensures value { result ≡ container_eq self.now other.now }
+        ensures same { Decides result (self.now ≡ other.now) }
+    {
         self.fields() == other.fields()
     }
 }
 
 impl Eq for Container {
-    ghost laws = { first_of (Prim.search (comparing, rules), Prim.grind (arith, Self.row.coded.inj)) };
+    ghost laws = { Comparisons.decided container_eq container_eq_decides };
 }

@@ -1,5 +1,7 @@
 //! The values that flows work on: amounts, fields, containers, and the bytes of a case.
 
+#![tactic(auto)]
+
 pub mod amount;
 pub mod case;
 pub mod container;

@@ -1,5 +1,5 @@
 use Rattle.std.proofs.Common.{◌≡◌, map, sym, refl, ap, ◌∙◌}
-use Rattle.values.proofs.Same.{same-container}
+use Rattle.values.specs.Same.{same-container}
 use Rattle.tables.specs.Answers.{chosen}
 use Rattle.tables.proofs.Pieces.{eight-listed}
 use Rattle.tables.proofs.outputs.Outputs.over.Goals as goal

@@ -1,0 +1,51 @@
+-- Values are equal where they are the same.
+use Rattle.std.proofs.Common.{◌≡◌, Bool, true, false, refl, sym, ap}
+use mathlib.Core.Bool.{true≢false}
+use Rattle.std.specs.Prelude.{Decides}
+use Rattle.std.specs.Cmp.{signed_Decides}
+use Rattle.std.specs.Cmp.Lexicographic.{pointwise_decides}
+use Rattle.values.specs.declared.amount.Amount.{Amount}
+use Rattle.values.specs.declared.field.Field.{Field}
+use Rattle.values.specs.declared.field.Field.TheVariants.{Blank, Number}
+use Rattle.values.specs.declared.container.Container.{Container}
+use Rattle.values.specs.Amounts.{size}
+use Rattle.values.specs.Equality.{amount_eq, field_eq, container_eq}
+use Rattle.values.specs.Same.{same_amount, same_container}
+
+pub amount_eq_decides : (a b : Amount) → Decides (amount_eq a b) (a ≡ b)
+amount_eq_decides a b =
+    let d = signed_Decides (size a) (size b) in
+    (λ t. same_amount a b (d.0 t), λ e. d.1 (ap size e))
+
+is_blank : Field → Bool
+is_blank Blank = true
+is_blank (Number a) = false
+
+amount_or : Amount → Field → Amount
+amount_or d Blank = d
+amount_or d (Number a) = a
+
+blank_is : is_blank Blank ≡ true
+unfolding is_blank
+blank_is = refl
+
+number_is_not : (a : Amount) → is_blank (Number a) ≡ false
+unfolding is_blank
+number_is_not a = refl
+
+number_holds : (d a : Amount) → amount_or d (Number a) ≡ a
+unfolding amount_or
+number_holds d a = refl
+
+pub field_eq_decides : (f g : Field) → Decides (field_eq f g) (f ≡ g)
+field_eq_decides Blank Blank = (λ t. refl, λ e. refl)
+field_eq_decides Blank (Number b) = (λ t. absurd (true≢false (sym t)), λ e. absurd ?)
+field_eq_decides (Number a) Blank = (λ t. absurd (true≢false (sym t)), λ e. absurd ?)
+field_eq_decides (Number a) (Number b) =
+    let d = amount_eq_decides a b in
+    (λ t. ap Number (d.0 t), λ e. d.1 ?)
+
+pub container_eq_decides : (c d : Container) → Decides (container_eq c d) (c ≡ d)
+container_eq_decides c d =
+    let e = pointwise_decides field_eq_decides c.fields d.fields in
+    (λ t. same_container c d (e.0 t), λ s. e.1 (ap (λ (x : Container). x.fields) s))
