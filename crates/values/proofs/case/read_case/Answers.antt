@@ -16,7 +16,7 @@ slot_read bs k = ap (take 9) (between_to_end bs (9 * k) (length bs) (omega arith
 pub returns-then-bytes-ne72 : goal.returns-then-bytes-ne72
 returns-then-bytes-ne72 c =
     let v : CaseRead c.args.bytes.now (Err Length) = c.if-bytes-ne72.true in
-    record { verdict = v; only-verdict = λ q h. one_verdict _ q _ h v; one_encoding = same_case }
+    record { verdict = v; only_verdict = λ q h. one_verdict _ q _ h v; one_encoding = same_case }
 
 pub returns-in-None : goal.returns-in-None
 returns-in-None c =
@@ -27,7 +27,7 @@ returns-in-None c =
       bad = λ is. c.in-None.ensures is.field (slot_read bs c.loop-k.k ∙ ap (slot 9 bs) (sym at) ∙ is.bytes_are);
       good_before = λ j h. record { field = _; bytes_are = c.loop-k.invariant j (omega (arith, at)) };
     } in
-    record { verdict = v; only-verdict = λ q h. one_verdict _ q _ h v; one_encoding = same_case }
+    record { verdict = v; only_verdict = λ q h. one_verdict _ q _ h v; one_encoding = same_case }
 
 pub loop-k-preserved : goal.loop-k-preserved
 loop-k-preserved c =
@@ -43,4 +43,4 @@ loop-k-preserved c =
 pub returns : goal.returns
 returns c =
     let v : CaseRead c.args.bytes.now (Ok c.loop-k.case) = case_from_slots _ c.loop-k.case c.if-bytes-ne72.false (λ j h. c.loop-k.invariant j (omega arith)) in
-    record { verdict = v; only-verdict = λ q h. one_verdict _ q _ h v; one_encoding = same_case }
+    record { verdict = v; only_verdict = λ q h. one_verdict _ q _ h v; one_encoding = same_case }
