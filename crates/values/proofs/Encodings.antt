@@ -1,13 +1,12 @@
 -- No two values have one encoding.
-use Rattle.std.proofs.Common.{◌≡◌, ℕ, zero, suc, ◌+◌, ◌-◌, ◌*◌, ◌/◌, ◌%◌, ◌^◌, ◌<◌, ◌≤◌, List, [], ◌∷◌, ◌++◌, length, ℤ, pos, negsuc, sym, refl, ap, ◌∙◌, pow-suc, arith, w64, SFits, to_z, of_z}
+use Rattle.std.proofs.Common.{◌≡◌, ℕ, zero, suc, ◌/◌, ◌%◌, ◌^◌, ◌<◌, List, ◌∷◌, length, ℤ, pos, negsuc, sym, refl, ap, ◌∙◌, pow-suc, arith, w64, SFits, to_z, of_z}
 use Rattle.std.proofs.lemmas.Int.{ints, to_z-of_z}
-use Rattle.values.specs.declared.amount.Amount.{Amount}
 use Rattle.values.specs.declared.field.Field.{Field}
 use Rattle.values.specs.declared.field.Field.TheVariants.{Blank, Number}
 use Rattle.values.specs.declared.field.Tag.{Tag}
 use Rattle.values.specs.declared.field.Tag.TheVariants as Tags
 use Rattle.values.specs.declared.container.Container.{Container}
-use Rattle.values.specs.Amounts.{InRange, size}
+use Rattle.values.specs.Amounts.{InRange}
 use Rattle.values.specs.Layout.{lowest_first, complement, signed_bytes, tagged, tag_number, field_bytes}
 use Rattle.values.specs.Cases.{case_bytes}
 use Rattle.values.specs.Same.{same_amount, same_container}

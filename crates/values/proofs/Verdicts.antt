@@ -1,13 +1,12 @@
 -- Bytes have one verdict as a case.
-use Rattle.std.proofs.Common.{◌≡◌, ℕ, ◌+◌, ◌*◌, ◌<◌, ◌≤◌, List, length, get_or, Ok, Err, Result, sym, refl, ap, ◌∙◌, subst, ⊎_elim, arith}
+use Rattle.std.proofs.Common.{◌≡◌, ℕ, ◌*◌, ◌<◌, List, length, Ok, Err, Result, sym, refl, ap, ◌∙◌, ⊎_elim, arith}
 use Rattle.std.proofs.lemmas.Bool.{cases_lt}
-use Rattle.values.specs.declared.field.FieldNumber.{FieldNumber}
 use Rattle.values.specs.declared.field.Field.TheVariants.{Blank}
 use Rattle.values.specs.declared.container.Container.{Container}
 use Rattle.values.specs.declared.case.refusal.CaseRefusal.{CaseRefusal}
 use Rattle.values.specs.declared.case.refusal.CaseRefusal.TheVariants.{Length, BadField}
 use Rattle.values.specs.Layout.{field_at, field_bytes}
-use Rattle.values.specs.Cases.{case_bytes, slot, FirstBad, CaseRefused, CaseRead}
+use Rattle.values.specs.Cases.{case_bytes, slot, CaseRefused, CaseRead}
 use Rattle.values.specs.Same.{same_number}
 use Rattle.values.proofs.Encodings.{same_case, wide_field}
 use Rattle.values.proofs.Records.{length_joined, slot_joined, joined_from_slots}

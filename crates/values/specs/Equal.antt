@@ -17,33 +17,21 @@ amount_eq_decides a b =
     let d = signed_Decides (size a) (size b) in
     (λ t. same_amount a b (d.0 t), λ e. d.1 (ap size e))
 
-is_blank : Field → Bool
+abbrev is_blank : Field → Bool
 is_blank Blank = true
 is_blank (Number a) = false
 
-amount_or : Amount → Field → Amount
+abbrev amount_or : Amount → Field → Amount
 amount_or d Blank = d
 amount_or d (Number a) = a
 
-blank_is : is_blank Blank ≡ true
-unfolding is_blank
-blank_is = refl
-
-number_is_not : (a : Amount) → is_blank (Number a) ≡ false
-unfolding is_blank
-number_is_not a = refl
-
-number_holds : (d a : Amount) → amount_or d (Number a) ≡ a
-unfolding amount_or
-number_holds d a = refl
-
 pub field_eq_decides : (f g : Field) → Decides (field_eq f g) (f ≡ g)
 field_eq_decides Blank Blank = (λ t. refl, λ e. refl)
-field_eq_decides Blank (Number b) = (λ t. absurd (true≢false (sym t)), λ e. absurd ?)
-field_eq_decides (Number a) Blank = (λ t. absurd (true≢false (sym t)), λ e. absurd ?)
+field_eq_decides Blank (Number b) = (λ t. absurd (true≢false (sym t)), λ e. absurd (true≢false (ap is_blank e)))
+field_eq_decides (Number a) Blank = (λ t. absurd (true≢false (sym t)), λ e. absurd (true≢false (ap is_blank (sym e))))
 field_eq_decides (Number a) (Number b) =
     let d = amount_eq_decides a b in
-    (λ t. ap Number (d.0 t), λ e. d.1 ?)
+    (λ t. ap Number (d.0 t), λ e. d.1 (ap (amount_or a) e))
 
 pub container_eq_decides : (c d : Container) → Decides (container_eq c d) (c ≡ d)
 container_eq_decides c d =

@@ -1,5 +1,5 @@
 -- The bytes of a field and of a container.
-use Rattle.std.specs.Prelude.{◌≡◌, ℕ, zero, suc, ◌-◌, ◌/◌, ◌%◌, ◌^◌, List, [], ◌∷◌, ◌++◌, ℤ, pos, negsuc, slice_index_or}
+use Rattle.std.specs.Prelude.{ℕ, zero, suc, ◌-◌, ◌/◌, ◌%◌, ◌^◌, List, [], ◌∷◌, ℤ, pos, negsuc, slice_index_or}
 use Rattle.values.specs.declared.field.Field.{Field}
 use Rattle.values.specs.declared.field.Field.TheVariants.{Blank, Number}
 use Rattle.values.specs.declared.field.Tag.{Tag}

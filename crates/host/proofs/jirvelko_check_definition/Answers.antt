@@ -4,8 +4,8 @@ use Rattle.flows.specs.Flows.{flow_parts}
 use Rattle.host.proofs.Places.{place_small}
 use Rattle.host.proofs.jirvelko_check_definition.Goals as goal
 
-pub overflow-cast-result-in-Err : goal.overflow-cast-result-in-Err
-overflow-cast-result-in-Err c = omega (arith, c.place.ensures, place_small c.args.bytes.now c.in-Err.refusal c.in-Err.ensures.verdict.0)
+pub overflow_cast-result-in-Err : goal.overflow_cast-result-in-Err
+overflow_cast-result-in-Err c = omega (arith, c.place.ensures, place_small c.args.bytes.now c.in-Err.refusal c.in-Err.ensures.verdict.0)
 
 pub returns-in-Ok : goal.returns-in-Ok
 returns-in-Ok c = record { verdict = accepted (flow_parts c.read.new.self); judged = c.in-Ok.ensures.verdict; cause_is = refl; place_is = refl }

@@ -21,20 +21,20 @@ loop-activity-init g c = (refl, none, refl, omega arith)
 
 pub outcome-requires : goal.outcome-requires
 outcome-requires g c =
-    let items = c.by-rank-activity-items.ensures in
+    let items = c.by_rank-activity-items.ensures in
     record { activity = items.ranks.each_once.below c.loop-activity.activity-index (omega (arith, items.ranks.each_once.long, c.loop-activity-test.true)); places = c.loop-activity.invariant.0 }
 
-pub returns-in-err-outcomes : goal.returns-in-err-outcomes
-returns-in-err-outcomes g c =
+pub returns-in_err-outcomes : goal.returns-in_err-outcomes
+returns-in_err-outcomes g c =
     let f = c.args.flow.now in
     let p = flow_plan f in
     let parts = flow_parts f in
     let looks = looks_back parts f.keeps_all in
     let ranked = has_ranks parts f.keeps_all in
-    let was = c.in-err-outcomes.ensures in
+    let was = c.in_err-outcomes.ensures in
     record {
       answers = was.answers ∙ c.loop-activity.invariant.2;
-      evaluated = rw c.from-residual.ensures (omega (arith, was.outcome, c.loop-activity.invariant.3));
+      evaluated = rw c.from_residual.ensures (omega (arith, was.outcome, c.loop-activity.invariant.3));
       one_evaluation = one_evaluation p looks ranked;
       by_rank = by_rank p looks ranked;
       looks_back = looks;
@@ -49,15 +49,15 @@ loop-activity-preserved g c =
     let answers = g.P.Partner.answers c.args.partner.now in
     let outcomes = c.loop-activity.outcomes in
     let i = c.loop-activity.activity-index in
-    let items = c.by-rank-activity-items.ensures in
-    let x = get_or c.by-rank-activity-items.result.now i 0 in
+    let items = c.by_rank-activity-items.ensures in
+    let x = get_or c.by_rank-activity-items.result.now i 0 in
     let inv = c.loop-activity.invariant in
-    let was = c.in-ok-outcomes.ensures in
+    let was = c.in_ok-outcomes.ensures in
     let here : i < p.count = omega (arith, items.ranks.each_once.long, c.loop-activity-test.true) in
     let few : p.count < 33 = omega (arith, activities_long f.draft, f.draft.few_activities) in
     let within : x < length outcomes = omega (arith, items.ranks.each_once.below i here, few, inv.0) in (
       length-set outcomes x _ ∙ inv.0,
-      treated_more p (looks_back parts f.keeps_all) (has_ranks parts f.keeps_all) c.args.case.now answers outcomes i x c.in-ok-outcomes.field-0 here
+      treated_more p (looks_back parts f.keeps_all) (has_ranks parts f.keeps_all) c.args.case.now answers outcomes i x c.in_ok-outcomes.field-0 here
           (ap (λ xs. get_or xs i 0) (items.value ∙ f.ranked)) within
           (was.outcome.0 ∙ ap (λ q. ruled p c.args.case.now q (valuation_of outcomes) x) inv.2) inv.1,
       was.answers ∙ inv.2,
@@ -72,7 +72,7 @@ returns g c =
     let looks = looks_back parts f.keeps_all in
     let ranked = has_ranks parts f.keeps_all in
     let answers = g.P.Partner.answers c.args.partner.now in
-    let items = c.by-rank-activity-items.ensures in
+    let items = c.by_rank-activity-items.ensures in
     let inv = c.loop-activity.invariant in
     let all : c.loop-activity.activity-index ≡ p.count = omega (arith, items.ranks.each_once.long, c.loop-activity-test.false, c.loop-activity.auto.activity-index-end) in
     let treated = subst (λ (i : ℕ). Treated p c.args.case.now answers c.loop-activity.outcomes i) all inv.1 in

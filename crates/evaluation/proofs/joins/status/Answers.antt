@@ -33,7 +33,7 @@ pub returns-in-Completed : goal.returns-in-Completed
 returns-in-Completed c =
     let f = c.args.flow.now in
     let is = source_outcome f c.links.result.now c.args.outcomes.now c.args.link _ c.links.ensures c.requires.link c.requires.places c.index-outcomes-source.is in
-    c.transition-holds.ensures ∙ sym (ap (taken (flow_plan f) c.args.link) (is ∙ c.in-Completed.is))
+    c.transition_holds.ensures ∙ sym (ap (taken (flow_plan f) c.args.link) (is ∙ c.in-Completed.is))
 
 pub returns-in-Faulted : goal.returns-in-Faulted
 returns-in-Faulted c =

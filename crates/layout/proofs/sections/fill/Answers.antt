@@ -16,18 +16,18 @@ loop-i-preserved g c =
     let same = c.loop-i.invariant.0 in
     let i = c.loop-i.i in
     let places = c.loop-i.places in
-    let x = c.in-ok-places.field-0 in
+    let x = c.in_ok-places.field-0 in
     let room : i < length places = omega arith in
-    let read = c.in-ok-places.ensures in
+    let read = c.in_ok-places.ensures in
     let step : Took bs c.loop-i.reader.at c.read.new.reader.at (bytes_of (g.E.Element.items x)) = rw same at read.element.0 in (
       search rules,
       rw (take_more_set places i x room) (took_push g.E.Element.items (take i places) x c.loop-i.invariant.1 step),
       rw (take_more_set places i x room) (All-push g.E.Element.good (take i places) x c.loop-i.invariant.2 read.element.1),
     )
 
-pub returns-in-err-places : goal.returns-in-err-places
-returns-in-err-places g c =
-    let p = err_from_is_err_and c.from-residual.result c.from-residual.ensures.1 in
+pub returns-in_err-places : goal.returns-in_err-places
+returns-in_err-places g c =
+    let p = err_from_is_err_and c.from_residual.result c.from_residual.ensures.1 in
     let same = c.loop-i.invariant.0 in
     let i = c.loop-i.i in
     let long : length (take i c.loop-i.places) ≡ i = length-take-le i c.loop-i.places (omega arith) in
@@ -39,7 +39,7 @@ returns-in-err-places g c =
         fine = c.loop-i.invariant.2;
         there = c.loop-i.reader.at;
         took = c.loop-i.invariant.1;
-        stop = rw same at c.in-err-places.ensures.element;
+        stop = rw same at c.in_err-places.ensures.element;
       });
     }
 

@@ -20,13 +20,13 @@ returns-then-count-gt32 c =
 pub loop-i-init : goal.loop-i-init
 loop-i-init c = kept_none c.args.count c.args.links.now
 
-pub returns-in-err-a : goal.returns-in-err-a
-returns-in-err-a c =
+pub returns-in_err-a : goal.returns-in_err-a
+returns-in_err-a c =
     let count = c.args.count in
     let links = c.args.links.now in
-    let none = none_free count links c.loop-i.ranked c.loop-i.order c.loop-i.i (omega arith) c.loop-i.invariant c.in-err-a.ensures in
+    let none = none_free count links c.loop-i.ranked c.loop-i.order c.loop-i.i (omega arith) c.loop-i.invariant c.in_err-a.ensures in
     record {
-      answer = rw c.from-residual.ensures (inr none);
+      answer = rw c.from_residual.ensures (inr none);
       some = λ few ends no_cycle. let order = order_exists count links ends no_cycle in absurd (none order.0 order.1);
       one = one_order count links;
       exists = order_exists count links;
@@ -35,7 +35,7 @@ returns-in-err-a c =
     }
 
 pub loop-i-preserved : goal.loop-i-preserved
-loop-i-preserved c = kept_more c.args.count c.args.links.now c.loop-i.ranked c.loop-i.order c.loop-i.i c.in-ok-a.a (omega arith) (omega arith) c.loop-i.invariant c.in-ok-a.ensures
+loop-i-preserved c = kept_more c.args.count c.args.links.now c.loop-i.ranked c.loop-i.order c.loop-i.i c.in_ok-a.a (omega arith) (omega arith) c.loop-i.invariant c.in_ok-a.ensures
 
 pub returns : goal.returns
 returns c =

@@ -23,7 +23,7 @@ text_checked p i t (Err f) (Err g) h e c n = (n.0, (h, subst⁻¹ (FaultPlace (k
 pub returns-in-Some : goal.returns-in-Some
 returns-in-Some c =
     let is = c.in-Some.ensures in
-    text_checked (parts_of c.args.draft.now) c.args.i _ _ _ is.0 is.1 c.check-text.ensures c.numbered.ensures
+    text_checked (parts_of c.args.draft.now) c.args.i _ _ _ is.0 is.1 c.check_text.ensures c.numbered.ensures
 
 placed : (p : Parts) (i : ℕ) (t : Text) (r : Result (Unit {0}) Fault) → Checked (kind_of_text p.links i) (text_bytes t) r → PlacedBelow 256 r
 placed p i t (Ok u) c = tt
@@ -34,5 +34,5 @@ numbered-requires c =
     let d = c.args.draft.now in
     record {
       text = omega (arith, c.in-Some.ensures.0, texts_long d, d.few_links, d.few_activities);
-      place = placed (parts_of d) c.args.i c.in-Some.text _ c.check-text.ensures;
+      place = placed (parts_of d) c.args.i c.in-Some.text _ c.check_text.ensures;
     }

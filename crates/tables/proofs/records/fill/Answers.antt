@@ -8,17 +8,17 @@ use Rattle.tables.proofs.records.fill.Goals as goal
 slot_read : (bs : List ℕ) (w k : ℕ) → between (w * k) (w * k + w) bs ≡ slot w bs k
 slot_read bs w k = ap (λ n. take n (drop (w * k) bs)) (omega arith)
 
-pub overflow-mul-width : goal.overflow-mul-width
-overflow-mul-width g c = omega (arith, within c.args.width c.loop-k.k _ c.loop-k-test.true, c.requires.0)
+pub overflow_mul-width : goal.overflow_mul-width
+overflow_mul-width g c = omega (arith, within c.args.width c.loop-k.k _ c.loop-k-test.true, c.requires.0)
 
-pub overflow-mul-width-in-loop-k : goal.overflow-mul-width-in-loop-k
-overflow-mul-width-in-loop-k g c = omega (arith, within c.args.width c.loop-k.k _ c.loop-k-test.true, c.requires.0)
+pub overflow_mul-width-in-loop-k : goal.overflow_mul-width-in-loop-k
+overflow_mul-width-in-loop-k g c = omega (arith, within c.args.width c.loop-k.k _ c.loop-k-test.true, c.requires.0)
 
-pub overflow-add-width : goal.overflow-add-width
-overflow-add-width g c = omega (arith, within c.args.width c.loop-k.k _ c.loop-k-test.true, c.requires.0)
+pub overflow_add-width : goal.overflow_add-width
+overflow_add-width g c = omega (arith, within c.args.width c.loop-k.k _ c.loop-k-test.true, c.requires.0)
 
-pub slice-bounds-read-end : goal.slice-bounds-read-end
-slice-bounds-read-end g c =
+pub slice_bounds-read-end : goal.slice_bounds-read-end
+slice_bounds-read-end g c =
     let h : c.args.width * c.loop-k.k + c.args.width ≤ length c.args.bytes.now = omega (arith, within c.args.width c.loop-k.k _ c.loop-k-test.true, c.requires.0) in
     search rules
 

@@ -8,12 +8,12 @@ use Rattle.conditions.specs.Values.{links_of}
 use Rattle.conditions.proofs.Whole.{one_reading, one_verdict}
 use Rattle.conditions.proofs.text.Text.check_join.Goals as goal
 
-pub returns-in-err-weigh-join : goal.returns-in-err-weigh-join
-returns-in-err-weigh-join c =
-    let p = err_from_is_err_and c.from-residual.result c.from-residual.ensures.1 in
+pub returns-in_err-weigh_join : goal.returns-in_err-weigh_join
+returns-in_err-weigh_join c =
+    let p = err_from_is_err_and c.from_residual.result c.from_residual.ensures.1 in
     let text = text_bytes c.args.self.now in
     record {
-      verdict = subst⁻¹ (Checked (join (links_of c.args.incoming.now)) text) (p.1 ∙ ap Err p.2) c.in-err-weigh-join.ensures;
+      verdict = subst⁻¹ (Checked (join (links_of c.args.incoming.now)) text) (p.1 ∙ ap Err p.2) c.in_err-weigh_join.ensures;
       one_reading = one_reading text;
       one_verdict = one_verdict text;
       tokens = tokens_of text;
@@ -22,5 +22,5 @@ returns-in-err-weigh-join c =
 pub returns : goal.returns
 returns c =
     let text = text_bytes c.args.self.now in
-    let told = c.in-ok-weigh-join.ensures in
+    let told = c.in_ok-weigh_join.ensures in
     record { verdict = (told.tree, told.reads); one_reading = one_reading text; one_verdict = one_verdict text; tokens = tokens_of text }

@@ -12,22 +12,22 @@ pub returns : goal.returns
 returns c =
     let f = c.args.flow.now in
     let outcomes = c.args.outcomes in
-    let inputs = c.all-inputs-inputs.result in
-    let statuses = c.all-statuses-statuses.result in
-    let n = c.activity-count-activity-count.result in
-    let m = c.link-count.result in
-    let n_is = c.activity-count-activity-count.ensures in
-    let m_is = c.link-count.ensures in
+    let inputs = c.all_inputs-inputs.result in
+    let statuses = c.all_statuses-statuses.result in
+    let n = c.activity_count-activity_count.result in
+    let m = c.link_count.result in
+    let n_is = c.activity_count-activity_count.ensures in
+    let m_is = c.link_count.ensures in
     let outcomes_long : n ≤ length outcomes = omega (arith, n_is, activities_long f.draft, f.draft.few_activities, c.requires) in
-    let inputs_long : n ≤ length inputs = omega (arith, n_is, activities_long f.draft, f.draft.few_activities, c.all-inputs-inputs.ensures.long) in
-    let statuses_long : m ≤ length statuses = omega (arith, m_is, links_long f.draft, f.draft.few_links, c.all-statuses-statuses.ensures.long) in
+    let inputs_long : n ≤ length inputs = omega (arith, n_is, activities_long f.draft, f.draft.few_activities, c.all_inputs-inputs.ensures.long) in
+    let statuses_long : m ≤ length statuses = omega (arith, m_is, links_long f.draft, f.draft.few_links, c.all_statuses-statuses.ensures.long) in
     let whole : to_z w64 (of_z w64 c.sum-charge.result) ≡ c.sum-charge.result = omega (arith, ints) in
     record {
       outcomes_long = length-take-le n outcomes outcomes_long ∙ n_is;
       inputs_long = length-take-le n inputs inputs_long ∙ n_is;
       statuses_long = length-take-le m statuses statuses_long ∙ m_is;
       outcomes_are = λ a h. sym (element_taken outcomes n a _ _ outcomes_long (omega (arith, h, n_is))).1;
-      inputs_are = λ a h. sym (element_taken inputs n a _ _ inputs_long (omega (arith, h, n_is))).1 ∙ c.all-inputs-inputs.ensures.inputs a h;
-      statuses_are = λ l h. sym (element_taken statuses m l _ _ statuses_long (omega (arith, h, m_is))).1 ∙ c.all-statuses-statuses.ensures.statuses l h;
+      inputs_are = λ a h. sym (element_taken inputs n a _ _ inputs_long (omega (arith, h, n_is))).1 ∙ c.all_inputs-inputs.ensures.inputs a h;
+      statuses_are = λ l h. sym (element_taken statuses m l _ _ statuses_long (omega (arith, h, m_is))).1 ∙ c.all_statuses-statuses.ensures.statuses l h;
       charge_is = whole ∙ c.sum-charge.ensures ∙ ap (λ (k : ℕ). charge_below k (valuation_of outcomes)) n_is;
     }

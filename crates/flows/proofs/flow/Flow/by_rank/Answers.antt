@@ -12,8 +12,8 @@ returns c =
     let n = length p.activities in
     let links = p.links in
     record {
-      value = c.as-slice.ensures;
-      ranks = subst (Ranks n links) (sym flow.ranked ∙ sym c.as-slice.ensures) (in_order p flow.keeps_all);
+      value = c.as_slice.ensures;
+      ranks = subst (Ranks n links) (sym flow.ranked ∙ sym c.as_slice.ensures) (in_order p flow.keeps_all);
       one = one_order n links;
       forward = paths_lead_forward n links;
       worked_out = worked_out n links;

@@ -15,40 +15,40 @@ use Rattle.flows.proofs.flow.Flow.read.Goals as goal
 left : (bs : List ℕ) (flow : Flow) (r : Result (Unit {0}) DefinitionRefusal) (e : DefinitionRefusal) → r ≡ Err e → Judged bs (refused e) → DefinitionRead bs flow r flow
 left bs flow r e is judged = rw is (judged, refl)
 
-pub returns-in-err-draft : goal.returns-in-err-draft
-returns-in-err-draft c =
+pub returns-in_err-draft : goal.returns-in_err-draft
+returns-in_err-draft c =
     let bs = c.args.bytes.now in
     let flow = c.args.self.now in
-    let r = c.from-residual.result in
-    let p = err_from_is_err_and r c.from-residual.ensures.1 in
+    let r = c.from_residual.result in
+    let p = err_from_is_err_and r c.from_residual.ensures.1 in
     let is = p.1 ∙ ap Err p.2 in
-    let judged = c.in-err-draft.ensures.verdict in
+    let judged = c.in_err-draft.ensures.verdict in
     record { verdict = left bs flow r _ is judged; read_as_written = none_defined bs flow r _ is judged; one_verdict = one_verdict bs; one_encoding = one_encoding }
 
-pub returns-in-err-check : goal.returns-in-err-check
-returns-in-err-check c =
+pub returns-in_err-check : goal.returns-in_err-check
+returns-in_err-check c =
     let bs = c.args.bytes.now in
     let flow = c.args.self.now in
-    let r = c.from-residual-in-err-check.result in
-    let p = err_from_is_err_and r c.from-residual-in-err-check.ensures.1 in
+    let r = c.from_residual-in_err-check.result in
+    let p = err_from_is_err_and r c.from_residual-in_err-check.ensures.1 in
     let is = p.1 ∙ ap Err p.2 in
-    let layout = c.in-ok-draft.ensures.verdict in
-    let judged : Breaks bs c.in-err-check.field-0.0 = record { parts = parts_of c.in-ok-draft.draft; limits = layout.0; written = layout.1; first = c.in-err-check.ensures.verdict } in
+    let layout = c.in_ok-draft.ensures.verdict in
+    let judged : Breaks bs c.in_err-check.field-0.0 = record { parts = parts_of c.in_ok-draft.draft; limits = layout.0; written = layout.1; first = c.in_err-check.ensures.verdict } in
     record { verdict = left bs flow r _ is judged; read_as_written = none_defined bs flow r _ is judged; one_verdict = one_verdict bs; one_encoding = one_encoding }
 
 pub unwrap-ranking-requires : goal.unwrap-ranking-requires
 unwrap-ranking-requires c =
-    let d = c.in-ok-draft.draft in
+    let d = c.in_ok-draft.draft in
     let p = parts_of d in
-    let keeps = c.in-ok-check.ensures.verdict in
-    let ends : EndsBelow c.links.result.now c.activity-count.result = rw (c.links.ensures, c.activity-count.ensures) (ends_kept p keeps) in
-    let none : NoCycle c.links.result.now c.activity-count.result = rw (c.links.ensures, c.activity-count.ensures) (no_cycle p keeps) in
-    c.rank.ensures.some (omega (arith, c.activity-count.ensures, activities_long d, d.few_activities)) ends none
+    let keeps = c.in_ok-check.ensures.verdict in
+    let ends : EndsBelow c.links.result.now c.activity_count.result = rw (c.links.ensures, c.activity_count.ensures) (ends_kept p keeps) in
+    let none : NoCycle c.links.result.now c.activity_count.result = rw (c.links.ensures, c.activity_count.ensures) (no_cycle p keeps) in
+    c.rank.ensures.some (omega (arith, c.activity_count.ensures, activities_long d, d.few_activities)) ends none
 
 pub returns : goal.returns
 returns c =
     let bs = c.args.bytes.now in
-    let p = parts_of c.in-ok-draft.draft in
-    let layout = c.in-ok-draft.ensures.verdict in
-    let defines : Defines bs p = record { limits = layout.0; written = layout.1; rules = c.in-ok-check.ensures.verdict } in
+    let p = parts_of c.in_ok-draft.draft in
+    let layout = c.in_ok-draft.ensures.verdict in
+    let defines : Defines bs p = record { limits = layout.0; written = layout.1; rules = c.in_ok-check.ensures.verdict } in
     record { verdict = defines; read_as_written = λ q other. defines_one bs p q defines other; one_verdict = one_verdict bs; one_encoding = one_encoding }

@@ -5,17 +5,17 @@ use Rattle.path_tables.proofs.closure.Reach.of.Goals as goal
 
 pub loop-k-init : goal.loop-k-init
 loop-k-init c =
-    let known = c.in-ok-pairs.ensures in
-    tabled_links c.args.links.now c.args.count known.0 (paired c.in-ok-pairs.pairs) known.1
+    let known = c.in_ok-pairs.ensures in
+    tabled_links c.args.links.now c.args.count known.0 (paired c.in_ok-pairs.pairs) known.1
 
 pub loop-k-preserved : goal.loop-k-preserved
 loop-k-preserved c =
-    tabled_round c.args.links.now c.args.count c.in-ok-pairs.ensures.0 c.loop-k.k (paired c.loop-k.pairs) (paired c.join-through.new.self) c.loop-k.invariant c.join-through.ensures
+    tabled_round c.args.links.now c.args.count c.in_ok-pairs.ensures.0 c.loop-k.k (paired c.loop-k.pairs) (paired c.join_through.new.self) c.loop-k.invariant c.join_through.ensures
 
 pub returns : goal.returns
 returns c =
     let links = c.args.links.now in
-    let ends = c.in-ok-pairs.ensures.0 in
+    let ends = c.in_ok-pairs.ensures.0 in
     let t = paired c.loop-k.pairs in
     let all : c.loop-k.k ≡ c.args.count = omega arith in
     (omega arith, ends, tabled_reaches links c.args.count ends t (subst (λ (k : ℕ). Tabled links k t) all c.loop-k.invariant))

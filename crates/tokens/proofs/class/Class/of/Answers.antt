@@ -23,38 +23,38 @@ pub returns-in-97-to-122 : goal.returns-in-97-to-122
 unfolding class
 returns-in-97-to-122 c = grind (arith, nat_tests)
 
-pub returns-in-97-to-122·2 : goal.returns-in-97-to-122·2
+pub returns-in-97-to-122-2 : goal.returns-in-97-to-122-2
 unfolding class
-returns-in-97-to-122·2 c = grind (arith, nat_tests)
+returns-in-97-to-122-2 c = grind (arith, nat_tests)
 
-pub returns-in-default : goal.returns-in-default
+pub returns-in_default : goal.returns-in_default
 unfolding class
-returns-in-default c = grind (arith, nat_tests)
+returns-in_default c = grind (arith, nat_tests)
 
-pub returns-in-default·2 : goal.returns-in-default·2
+pub returns-in_default-2 : goal.returns-in_default-2
 unfolding class
-returns-in-default·2 c = grind (arith, nat_tests)
+returns-in_default-2 c = grind (arith, nat_tests)
 
-pub returns-in-default·3 : goal.returns-in-default·3
+pub returns-in_default-3 : goal.returns-in_default-3
 unfolding class
-returns-in-default·3 c = grind (arith, nat_tests)
+returns-in_default-3 c = grind (arith, nat_tests)
 
-pub returns-in-default·4 : goal.returns-in-default·4
+pub returns-in_default-4 : goal.returns-in_default-4
 unfolding class
-returns-in-default·4 c = grind (arith, nat_tests)
+returns-in_default-4 c = grind (arith, nat_tests)
 
-pub returns-in-default·5 : goal.returns-in-default·5
+pub returns-in_default-5 : goal.returns-in_default-5
 unfolding class
-returns-in-default·5 c = grind (arith, nat_tests)
+returns-in_default-5 c = grind (arith, nat_tests)
 
-pub returns-in-default·6 : goal.returns-in-default·6
+pub returns-in_default-6 : goal.returns-in_default-6
 unfolding class
-returns-in-default·6 c = grind (arith, nat_tests)
+returns-in_default-6 c = grind (arith, nat_tests)
 
 pub returns-in-60 : goal.returns-in-60
 unfolding class
 returns-in-60 c = grind (arith, nat_tests)
 
-pub returns-in-60·2 : goal.returns-in-60·2
+pub returns-in-60-2 : goal.returns-in-60-2
 unfolding class
-returns-in-60·2 c = grind (arith, nat_tests)
+returns-in-60-2 c = grind (arith, nat_tests)

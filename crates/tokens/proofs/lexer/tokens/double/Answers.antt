@@ -3,5 +3,5 @@ use Rattle.std.proofs.lemmas.Bool.Decides.{nat_tests}
 use Rattle.tokens.proofs.Spans.{first_past, second_past}
 use Rattle.tokens.proofs.lexer.tokens.double.Goals as goal
 
-pub returns-in-default : goal.returns-in-default
-returns-in-default c = grind (arith, nat_tests, first_past, second_past)
+pub returns-in_default : goal.returns-in_default
+returns-in_default c = grind (arith, nat_tests, first_past, second_past)

@@ -9,6 +9,6 @@ minus-requires c =
     let rest = take_rest c.args.rest.now 1 in
     record {
       first = omega arith;
-      word = c.run-length.ensures.run ∙ ap run rest;
-      within = omega (arith, c.run-length.ensures.within, ap length rest, length-drop 1 c.args.rest.now);
+      word = c.run_length.ensures.run ∙ ap run rest;
+      within = omega (arith, c.run_length.ensures.within, ap length rest, length-drop 1 c.args.rest.now);
     }

@@ -14,23 +14,23 @@ few n i most len a b c d = let h : i ≤ 11 = omega arith in omega (arith, ten_u
 most_under : (n i most len : ℕ) → n < 10 ^ i → i ≤ len → len ≤ most → most ≤ 12 → n < 1_000_000_000_000
 most_under n i most len a b c d = let h : i ≤ 12 = omega arith in omega (arith, ten_under i 12 h)
 
-pub overflow-mul-n : goal.overflow-mul-n
-overflow-mul-n c =
+pub overflow_mul-n : goal.overflow_mul-n
+overflow_mul-n c =
     let h = few _ _ c.args.most (length c.args.digits.now) c.loop-b.invariant.0 c.loop-b-test.true c.if-digits-most.false c.requires in
     search rules
 
-pub overflow-add-n : goal.overflow-add-n
-overflow-add-n c =
+pub overflow_add-n : goal.overflow_add-n
+overflow_add-n c =
     let h = few _ _ c.args.most (length c.args.digits.now) c.loop-b.invariant.0 c.loop-b-test.true c.if-digits-most.false c.requires in
     search rules
 
-pub returns-in-default : goal.returns-in-default
-returns-in-default c =
+pub returns-in_default : goal.returns-in_default
+returns-in_default c =
     let no_digit : digit (get_or c.args.digits.now c.loop-b.b-index 0) ≡ false = grind (arith, nat_tests) in
     record { value = no_numeral c.args.most _ (sym c.loop-b.invariant.2 ∙ digits_stop _ _ c.loop-b-test.true no_digit); bound = tt }
 
-pub returns-in-default·2 : goal.returns-in-default·2
-returns-in-default·2 c =
+pub returns-in_default-2 : goal.returns-in_default-2
+returns-in_default-2 c =
     let no_digit : digit (get_or c.args.digits.now c.loop-b.b-index 0) ≡ false = grind (arith, nat_tests) in
     record { value = no_numeral c.args.most _ (sym c.loop-b.invariant.2 ∙ digits_stop _ _ c.loop-b-test.true no_digit); bound = tt }
 
@@ -52,6 +52,6 @@ returns c =
     let end : length ds ≤ c.loop-b.b-index = omega arith in
     let digits : all_digits ds ≡ true = sym c.loop-b.invariant.2 ∙ at_drop_all all_digits ds _ end in
     record {
-      value = a_numeral c.args.most ds _ (is_plain c.args.most ds (false-eqb _ 0 c.if-is-empty.ensures) c.if-digits-most.false c.else-digits-eq48.either digits) (sym (at_drop_all (decimal c.loop-b.n) ds _ end) ∙ c.loop-b.invariant.1);
+      value = a_numeral c.args.most ds _ (is_plain c.args.most ds (false-eqb _ 0 c.if-is_empty.ensures) c.if-digits-most.false c.else-digits-eq48.either digits) (sym (at_drop_all (decimal c.loop-b.n) ds _ end) ∙ c.loop-b.invariant.1);
       bound = most_under _ _ c.args.most (length ds) c.loop-b.invariant.0 c.loop-b.auto.b-index-end c.if-digits-most.false c.requires;
     }

@@ -14,12 +14,12 @@ by_link w rest o first e is =
     let link : link_of w ≡ o = cond-true _ _ _ (eq-eqb _ 76 first) ∙ ap link_number (sym e) ∙ sym is in
     λ i. named (none i) (link i)
 
-pub returns-in-err-read-link : goal.returns-in-err-read-link
-returns-in-err-read-link c =
+pub returns-in_err-read_link : goal.returns-in_err-read_link
+returns-in_err-read_link c =
     let first : get_or c.args.part.now 0 0 ≡ 76 = omega arith in
-    subst⁻¹ (Says _) c.from-residual.ensures (by_link c.args.part.now _ None first (take_rest c.args.part.now 1) c.in-err-read-link.ensures)
+    subst⁻¹ (Says _) c.from_residual.ensures (by_link c.args.part.now _ None first (take_rest c.args.part.now 1) c.in_err-read_link.ensures)
 
-pub returns-in-ok-read-link : goal.returns-in-ok-read-link
-returns-in-ok-read-link c =
+pub returns-in_ok-read_link : goal.returns-in_ok-read_link
+returns-in_ok-read_link c =
     let first : get_or c.args.part.now 0 0 ≡ 76 = omega arith in
-    by_link c.args.part.now _ _ first (take_rest c.args.part.now 1) c.in-ok-read-link.ensures
+    by_link c.args.part.now _ _ first (take_rest c.args.part.now 1) c.in_ok-read_link.ensures

@@ -1,4 +1,4 @@
-use Rattle.std.proofs.Common.{◌≡◌, ℕ, ◌<◌, length, get_or, sym, refl, ap, ◌∙◌, arith, rules}
+use Rattle.std.proofs.Common.{◌<◌, length, sym, ap, ◌∙◌, arith, rules}
 use borrow.Author.Rules.{get_or_read}
 use Rattle.values.specs.Layout.{field_bytes}
 use Rattle.values.specs.Cases.{slot, case_bytes}

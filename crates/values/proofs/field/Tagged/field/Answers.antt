@@ -1,6 +1,5 @@
-use Rattle.std.proofs.Common.{◌≡◌, ℕ, refl}
 use Rattle.values.proofs.Encodings.{no_field}
 use Rattle.values.proofs.field.Tagged.field.Goals as goal
 
-pub returns-in-err-from-number : goal.returns-in-err-from-number
-returns-in-err-from-number c = rw c.from-residual.ensures (no_field c.args.self.tag c.args.self.value c.in-err-from-number.ensures)
+pub returns-in_err-from_number : goal.returns-in_err-from_number
+returns-in_err-from_number c = rw c.from_residual.ensures (no_field c.args.self.tag c.args.self.value c.in_err-from_number.ensures)

@@ -18,5 +18,5 @@ returns-in-Some g c =
     record {
       same = ap (nested_answers s.flow s.result) c.in-Some.ensures.answers;
       no_more = tells.1;
-      said = subst (λ (a : Answer). Said a (g.P.Partner.busy s.below) (g.P.Partner.busy c.evaluate.new.partner) c.hand-up.new.output c.hand-up.result) (ap handed_up came) (c.hand-up.ensures _ _);
+      said = subst (λ (a : Answer). Said a (g.P.Partner.busy s.below) (g.P.Partner.busy c.evaluate.new.partner) c.hand_up.new.output c.hand_up.result) (ap handed_up came) (c.hand_up.ensures _ _);
     }

@@ -2,10 +2,10 @@ use Rattle.std.proofs.Common.{arith}
 use Rattle.partners.proofs.Shares.{answered, all_busy}
 use Rattle.partners.proofs.retry.calls.RetryPartner.call.Goals as goal
 
-pub returns-in-default : goal.returns-in-default
-returns-in-default g c =
+pub returns-in_default : goal.returns-in_default
+returns-in_default g c =
     let i = c.loop.invariant in
-    rw i.0 (answered _ _ _ _ _ _ _ _ _ _ _ (omega (arith, c.args.self.now.some)) i.1 (omega (arith, i.2)) c.in-default.not-Busy c.call.ensures)
+    rw i.0 (answered _ _ _ _ _ _ _ _ _ _ _ (omega (arith, c.args.self.now.some)) i.1 (omega (arith, i.2)) c.in_default.not-Busy c.call.ensures)
 
 pub returns : goal.returns
 returns g c =
