@@ -1,5 +1,5 @@
 -- Two ways to take the same bytes apart into items of a layout agree; so bytes stop to follow a layout at one place.
-use Rattle.std.proofs.Common.{◌≡◌, ℕ, suc, ◌+◌, ◌<◌, ◌≤◌, List, [], ◌∷◌, ◌++◌, length, get_or, take, sym, refl, ap, ◌∙◌, arith}
+use Rattle.std.proofs.Common.{◌≡◌, ℕ, suc, ◌<◌, ◌≤◌, List, [], ◌∷◌, ◌++◌, length, get_or, take, sym, refl, ap, ◌∙◌, arith}
 use Rattle.std.specs.List.{flat_map}
 use Rattle.std.proofs.lemmas.List.{take_at, append_assoc, length-append}
 use Rattle.layout.specs.Layout.{Parts, WithinLimits, Item, a_count, a_record, a_length, a_text, item_bytes, bytes_of, section_items, record_items, text_items, items_of, activity_bytes, link_bytes, connector_bytes}
