@@ -1,3 +1,4 @@
 pub mod Elements
 pub mod OneVerdict
 pub mod Ranked
+pub mod Sizes

@@ -7,10 +7,10 @@ use Rattle.path_laws.proofs.NeverStuck.{order_exists}
 use Rattle.path_laws.proofs.Orders.{worked_out}
 use Rattle.rules.specs.declared.refusal.RuleRefusal.TheVariants.{Cycle}
 use Rattle.rules.specs.Rules.{KeepsAll}
-use Rattle.rules.proofs.Ends.{ends-below}
+use Rattle.rules.proofs.Ends.{ends_below}
 
 pub ends_kept : (p : Parts) → KeepsAll p → EndsBelow p.links (length p.activities)
-ends_kept p keeps = ends-below p (λ d before. keeps d)
+ends_kept p keeps = ends_below p (λ d before. keeps d)
 
 pub no_cycle : (p : Parts) → KeepsAll p → NoCycle p.links (length p.activities)
 no_cycle p keeps a h r = keeps (Cycle a) (h, r)

@@ -1,15 +1,15 @@
 -- What a flow holds, and what reading one answers.
 use Rattle.std.specs.Prelude.{◌≡◌, ℕ, List, length, take, drop, Ok, Err, Result}
 use Rattle.layout.specs.Layout.{Parts}
-use Rattle.layout.specs.Drafts.{parts_of}
 use Rattle.paths.specs.Rankings.{order_of}
 use Rattle.flows.specs.declared.flow.Flow.{Flow}
+use Rattle.flows.specs.Drafted.{drafted}
 use Rattle.flows.specs.declared.refusal.DefinitionRefusal.{DefinitionRefusal}
 use Rattle.flows.specs.Verdicts.{Judged, accepted, refused, Defines}
 
 -- its activities, links, connectors and texts
 abbrev pub flow_parts : Flow → Parts
-flow_parts f = parts_of f.draft
+flow_parts f = drafted f.draft
 
 -- its activities by rank
 abbrev pub flow_order : Flow → List ℕ

@@ -1,3 +1,4 @@
+pub mod Drafted
 pub mod Refusals
 pub mod Verdicts
 pub mod Flows

@@ -12,70 +12,109 @@ impl Flow {
     pub fn activity_count(&self) -> usize
         ensures { result ≡ length (flow_parts self.now).activities }
     {
-        self.draft.activity_count()
+        match &self.draft {
+            Some(draft) => draft.activity_count(),
+            None => 0,
+        }
     }
 
     pub fn link_count(&self) -> usize
         ensures { result ≡ length (flow_parts self.now).links }
     {
-        self.draft.link_count()
+        match &self.draft {
+            Some(draft) => draft.link_count(),
+            None => 0,
+        }
     }
 
     pub fn connector_count(&self) -> usize
         ensures { result ≡ length (flow_parts self.now).connectors }
     {
-        self.draft.connector_count()
+        match &self.draft {
+            Some(draft) => draft.connector_count(),
+            None => 0,
+        }
     }
 
     /// As many as links and activities.
     pub fn text_count(&self) -> usize
         ensures { result ≡ length (flow_parts self.now).texts }
     {
-        self.draft.text_count()
+        match &self.draft {
+            Some(draft) => draft.text_count(),
+            None => 0,
+        }
     }
 
     pub fn activities(&self) -> &[Activity]
         ensures { result.now ≡ (flow_parts self.now).activities }
     {
-        self.draft.activities()
+        match &self.draft {
+            Some(draft) => draft.activities(),
+            None => &[],
+        }
     }
 
     pub fn links(&self) -> &[Link]
         ensures { result.now ≡ (flow_parts self.now).links }
     {
-        self.draft.links()
+        match &self.draft {
+            Some(draft) => draft.links(),
+            None => &[],
+        }
     }
 
     pub fn connectors(&self) -> &[Connector]
         ensures { result.now ≡ (flow_parts self.now).connectors }
     {
-        self.draft.connectors()
+        match &self.draft {
+            Some(draft) => draft.connectors(),
+            None => &[],
+        }
     }
 
     pub fn activity(&self, i: usize) -> Option<Activity>
         ensures { ElementAt (λ a. a) zero_activity (flow_parts self.now).activities i result }
     {
-        self.draft.activity(i)
+        match &self.draft {
+            Some(draft) => draft.activity(i),
+            None => None,
+        }
     }
 
     pub fn link(&self, i: usize) -> Option<Link>
         ensures { ElementAt (λ l. l) zero_link (flow_parts self.now).links i result }
     {
-        self.draft.link(i)
+        match &self.draft {
+            Some(draft) => draft.link(i),
+            None => None,
+        }
     }
 
     pub fn connector(&self, i: usize) -> Option<Connector>
         ensures { ElementAt (λ c. c) zero_connector (flow_parts self.now).connectors i result }
     {
-        self.draft.connector(i)
+        match &self.draft {
+            Some(draft) => draft.connector(i),
+            None => None,
+        }
+    }
+
+    fn text(&self, i: usize) -> Option<Text>
+        ensures { ElementAt text_bytes [] (flow_parts self.now).texts i result }
+    {
+        match &self.draft {
+            Some(draft) => draft.text(i),
+            None => None,
+        }
     }
 
     /// The transition text of a link.
     pub fn transition(&self, link: usize) -> Option<Text>
         ensures { ElementAt text_bytes [] (transition_texts self.now) link result }
     {
-        if link < self.draft.link_count() {
-            self.draft.text(link)
+        if link < self.link_count() {
+            self.text(link)
         } else {
             None
         }
@@ -85,8 +124,8 @@ impl Flow {
     pub fn join(&self, activity: usize) -> Option<Text>
         ensures { ElementAt text_bytes [] (join_texts self.now) activity result }
     {
-        if activity < self.draft.activity_count() {
-            self.draft.text(self.draft.link_count() + activity)
+        if activity < self.activity_count() {
+            self.text(self.link_count() + activity)
         } else {
             None
         }

@@ -16,9 +16,11 @@ impl Flow {
         ensures parts { flow_parts result ≡ no_parts }
         ensures order { flow_order result ≡ [] }
     {
-        let draft = Draft::empty();
         let ranking = rank(&[], 0).unwrap();
-        Flow { draft, ranking }
+        Flow {
+            draft: None,
+            ranking,
+        }
     }
 
     /// Replaces the flow by the one that the bytes define.
@@ -31,7 +33,10 @@ impl Flow {
         let draft = Draft::read(bytes)?;
         check(&draft)?;
         let ranking = rank(draft.links(), draft.activity_count()).unwrap();
-        *self = Flow { draft, ranking };
+        *self = Flow {
+            draft: Some(draft),
+            ranking,
+        };
         Ok(())
     }
 }

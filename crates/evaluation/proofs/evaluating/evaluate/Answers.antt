@@ -1,7 +1,7 @@
 use Rattle.std.proofs.Common.{◌≡◌, ℕ, ◌<◌, length, get_or, replicate, sym, refl, ap, ◌∙◌, subst, ⊎_elim, arith, length-set}
 use Rattle.std.proofs.lemmas.List.{get_or-replicate, get_or_past}
 use Rattle.std.proofs.lemmas.Bool.{cases_lt}
-use Rattle.layout.proofs.Elements.{activities_long}
+use Rattle.flows.proofs.Sizes.{few_activities}
 use Rattle.flows.specs.Flows.{flow_parts}
 use Rattle.plans.proofs.Plans.{looks_back, has_ranks, by_readings}
 use Rattle.evaluation_laws.specs.declared.Outcome.{Outcome}
@@ -54,7 +54,7 @@ loop-activity-preserved g c =
     let inv = c.loop-activity.invariant in
     let was = c.in_ok-outcomes.ensures in
     let here : i < p.count = omega (arith, items.ranks.each_once.long, c.loop-activity-test.true) in
-    let few : p.count < 33 = omega (arith, activities_long f.draft, f.draft.few_activities) in
+    let few : p.count < 33 = omega (arith, few_activities f) in
     let within : x < length outcomes = omega (arith, items.ranks.each_once.below i here, few, inv.0) in (
       length-set outcomes x _ ∙ inv.0,
       treated_more p (looks_back parts f.keeps_all) (has_ranks parts f.keeps_all) c.args.case.now answers outcomes i x c.in_ok-outcomes.field-0 here

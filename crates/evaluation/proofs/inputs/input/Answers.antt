@@ -1,5 +1,5 @@
 use Rattle.std.proofs.Common.{◌≡◌, ℕ, ◌+◌, ◌-◌, ◌<◌, ◌≤◌, List, length, set, sym, ap, ◌∙◌, subst, arith}
-use Rattle.layout.proofs.Elements.{activities_long}
+use Rattle.flows.proofs.Sizes.{few_activities}
 use Rattle.parts.specs.declared.Connector.{Connector}
 use Rattle.rules.specs.Rules.{connector_at}
 use Rattle.flows.specs.declared.flow.Flow.{Flow}
@@ -13,7 +13,7 @@ use Rattle.evaluation.proofs.inputs.input.Goals as goal
 -- connector i of a list that is the flow's
 bounds : (f : Flow) (cs : List Connector) (i : ℕ) → cs ≡ (flow_parts f).connectors → i < length cs → ((connector_at cs i).target_field < 8) × ((connector_at cs i).source_field < 8) × ((connector_at cs i).source < 32)
 bounds f cs i e h =
-    let few : length (flow_parts f).activities ≤ 32 = omega (arith, activities_long f.draft, f.draft.few_activities) in
+    let few : length (flow_parts f).activities ≤ 32 = omega (arith, few_activities f) in
     let is = ap (λ xs. connector_at xs i) e in
     let b = connector_bounds (flow_parts f) f.keeps_all few i (omega (arith, ap length e)) in
     (omega (arith, ap (λ (c : Connector). c.target_field) is, b.0), omega (arith, ap (λ (c : Connector). c.source_field) is, b.1), omega (arith, ap (λ (c : Connector). c.source) is, b.2))

@@ -1,6 +1,6 @@
 use Rattle.std.proofs.Common.{◌≡◌, ℕ, ◌+◌, ◌<◌, ◌≤◌, List, [], ◌∷◌, ◌++◌, length, take, drop, set, sym, refl, ap, ◌∙◌, subst, append-nil, arith, length-set}
 use mathlib.Core.Path.{subst⁻¹}
-use Rattle.layout.proofs.Elements.{links_long}
+use Rattle.flows.proofs.Sizes.{few_links}
 use Rattle.conditions.specs.Values.{links_of}
 use Rattle.path_laws.specs.Paths.{link_at}
 use Rattle.rules.specs.Rules.{into}
@@ -23,7 +23,7 @@ loop-k-preserved c =
     let so_far = c.loop-k.invariant in
     let here : k < length ls = omega (arith, ap length c.links-links.ensures, c.loop-k-test.true) in
     let target = ap (λ xs. (link_at xs k).target) c.links-links.ensures in
-    let room : n < length c.loop-k.places = omega (arith, so_far.0, so_far.1, here, links_long f.draft, f.draft.few_links) in
+    let room : n < length c.loop-k.places = omega (arith, so_far.0, so_far.1, here, few_links f) in
     elim c.if-links-k.branch [
       | then-links-k w ↦ (
         omega (arith, so_far.0, w.n_is),
@@ -50,7 +50,7 @@ returns c =
     let ls = (flow_parts f).links in
     let all : length ls ≤ c.loop-k.k = omega (arith, ap length c.links-links.ensures, c.loop-k-test.false) in
     record {
-      within = omega (arith, c.loop-k.invariant.0, c.loop-k.auto.k-end, ap length c.links-links.ensures, links_long f.draft, f.draft.few_links);
+      within = omega (arith, c.loop-k.invariant.0, c.loop-k.auto.k-end, ap length c.links-links.ensures, few_links f);
       links = sym (append-nil _) ∙ ap (λ l. links_of (take c.loop-k.n c.loop-k.places) ++ l) (sym (into_end ls c.loop-k.k c.args.activity all)) ∙ c.loop-k.invariant.2;
       statuses = c.loop-k.invariant.3;
     }

@@ -1,6 +1,6 @@
 use Rattle.std.proofs.Common.{length, arith}
 use Rattle.std.proofs.lemmas.List.{length-drop}
-use Rattle.layout.proofs.Elements.{texts_long, links_long, activities_long}
+use Rattle.flows.proofs.Sizes.{texts_long}
 use Rattle.flows.specs.Flows.{flow_parts}
 use Rattle.evaluation_laws.specs.Evaluations.{statuses}
 use Rattle.evaluation.specs.Flows.{flow_plan, valuation_of}
@@ -22,4 +22,4 @@ pub returns-in-None : goal.returns-in-None
 returns-in-None c =
     let f = c.args.flow.now in
     let p = flow_parts f in
-    absurd (omega (arith, c.in-None.ensures, c.requires.activity, length-drop (length p.links) p.texts, texts_long f.draft, links_long f.draft, activities_long f.draft))
+    absurd (omega (arith, c.in-None.ensures, c.requires.activity, length-drop (length p.links) p.texts, texts_long f))

@@ -1,5 +1,5 @@
 use Rattle.std.proofs.Common.{◌≡◌, ℕ, ◌<◌, List, length, get_or, sym, ap, ◌∙◌, arith}
-use Rattle.layout.proofs.Elements.{activities_long}
+use Rattle.flows.proofs.Sizes.{few_activities}
 use Rattle.parts.specs.declared.Link.{Link}
 use Rattle.path_laws.specs.Paths.{link_at}
 use Rattle.flows.specs.declared.flow.Flow.{Flow}
@@ -15,13 +15,13 @@ use Rattle.evaluation.proofs.joins.status.Goals as goal
 source_outcome : (f : Flow) (links : List Link) (outcomes : List Outcome) (l : ℕ) (o : Outcome) → links ≡ (flow_parts f).links → l < length (flow_parts f).links → length outcomes ≡ 32 → o ≡ get_or outcomes (link_at links l).source o → valuation_of outcomes (link_at (flow_parts f).links l).source ≡ o
 source_outcome f links outcomes l o e h long is =
     let source = ap (λ ls. (link_at ls l).source) e in
-    outcome_read outcomes _ _ o source (omega (arith, source, (ends_kept (flow_parts f) f.keeps_all l h).0, activities_long f.draft, f.draft.few_activities, long)) is
+    outcome_read outcomes _ _ o source (omega (arith, source, (ends_kept (flow_parts f) f.keeps_all l h).0, few_activities f, long)) is
 
 pub bounds-outcomes-source : goal.bounds-outcomes-source
 bounds-outcomes-source c =
     let f = c.args.flow.now in
     let ends = (ends_kept (flow_parts f) f.keeps_all c.args.link c.requires.link).0 in
-    omega (arith, ap (λ ls. (link_at ls c.args.link).source) c.links.ensures, ends, activities_long f.draft, f.draft.few_activities, c.requires.places)
+    omega (arith, ap (λ ls. (link_at ls c.args.link).source) c.links.ensures, ends, few_activities f, c.requires.places)
 
 pub returns-in-Skipped : goal.returns-in-Skipped
 returns-in-Skipped c =

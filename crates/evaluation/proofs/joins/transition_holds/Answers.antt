@@ -5,7 +5,7 @@ use Rattle.conditions.specs.Texts.{Holding}
 use Rattle.conditions.specs.Values.{over_output}
 use Rattle.readings.specs.Readings.{reading_of, holding}
 use Rattle.readings.proofs.Values.{holding_is}
-use Rattle.layout.proofs.Elements.{texts_long, links_long}
+use Rattle.flows.proofs.Sizes.{texts_long}
 use Rattle.flows.specs.Flows.{flow_parts}
 use Rattle.plans.specs.Plans.{transition_value, transition_text}
 use Rattle.evaluation.proofs.Weighing.{faulty_false, transition_is}
@@ -32,5 +32,5 @@ pub returns-in-None : goal.returns-in-None
 returns-in-None c =
     let f = c.args.flow.now in
     let m = length (flow_parts f).links in
-    let few : m ≤ length (flow_parts f).texts = omega (arith, texts_long f.draft, links_long f.draft) in
+    let few : m ≤ length (flow_parts f).texts = omega (arith, texts_long f) in
     absurd (omega (arith, c.in-None.ensures, c.requires, length-take-le m (flow_parts f).texts few))

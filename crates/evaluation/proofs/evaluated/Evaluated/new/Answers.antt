@@ -1,7 +1,7 @@
 use Rattle.std.proofs.Common.{◌≡◌, ℕ, ◌<◌, ◌≤◌, length, sym, refl, ap, ◌∙◌, arith, w64, to_z, of_z}
 use Rattle.std.proofs.lemmas.List.{length-take-le}
 use Rattle.std.proofs.lemmas.Int.{ints}
-use Rattle.layout.proofs.Elements.{activities_long, links_long}
+use Rattle.flows.proofs.Sizes.{few_activities, few_links}
 use Rattle.flows.specs.Flows.{flow_parts}
 use Rattle.evaluation_laws.specs.Evaluations.{charge_below}
 use Rattle.evaluation.specs.Flows.{valuation_of}
@@ -18,9 +18,9 @@ returns c =
     let m = c.link_count.result in
     let n_is = c.activity_count-activity_count.ensures in
     let m_is = c.link_count.ensures in
-    let outcomes_long : n ≤ length outcomes = omega (arith, n_is, activities_long f.draft, f.draft.few_activities, c.requires) in
-    let inputs_long : n ≤ length inputs = omega (arith, n_is, activities_long f.draft, f.draft.few_activities, c.all_inputs-inputs.ensures.long) in
-    let statuses_long : m ≤ length statuses = omega (arith, m_is, links_long f.draft, f.draft.few_links, c.all_statuses-statuses.ensures.long) in
+    let outcomes_long : n ≤ length outcomes = omega (arith, n_is, few_activities f, c.requires) in
+    let inputs_long : n ≤ length inputs = omega (arith, n_is, few_activities f, c.all_inputs-inputs.ensures.long) in
+    let statuses_long : m ≤ length statuses = omega (arith, m_is, few_links f, c.all_statuses-statuses.ensures.long) in
     let whole : to_z w64 (of_z w64 c.sum-charge.result) ≡ c.sum-charge.result = omega (arith, ints) in
     record {
       outcomes_long = length-take-le n outcomes outcomes_long ∙ n_is;

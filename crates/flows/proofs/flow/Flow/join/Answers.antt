@@ -2,9 +2,9 @@ use Rattle.std.proofs.Common.{ℕ, ◌+◌, [], length, ap, subst, arith}
 use Rattle.std.proofs.lemmas.List.{length-drop}
 use Rattle.conditions.specs.Texts.{text_bytes}
 use Rattle.layout.specs.Drafts.{ElementAt}
-use Rattle.layout.proofs.Elements.{texts_long, links_long, activities_long}
 use Rattle.flows.specs.Flows.{flow_parts}
 use Rattle.flows.proofs.Elements.{in_rest}
+use Rattle.flows.proofs.Sizes.{texts_long}
 use Rattle.flows.proofs.flow.Flow.join.Goals as goal
 
 pub returns-then-activity-activity_count : goal.returns-then-activity-activity_count
@@ -16,4 +16,4 @@ pub returns-else-activity-activity_count : goal.returns-else-activity-activity_c
 returns-else-activity-activity_count c =
     let f = c.args.self.now in
     let p = flow_parts f in
-    omega (arith, c.if-activity-activity_count.false, c.activity_count.ensures, length-drop (length p.links) p.texts, texts_long f.draft, links_long f.draft, activities_long f.draft)
+    omega (arith, c.if-activity-activity_count.false, c.activity_count.ensures, length-drop (length p.links) p.texts, texts_long f)
