@@ -4,15 +4,15 @@ use crate::order::{Ordered, TellsApart};
 
 /// Elements taken out of a pool, with none added between, come in rising order.
 pub fn taken_come_rising<T: Ordered>()
-    ensures { TakenComeRising before }
+    ensures { TakenComeRising T.before }
 {}
 
 /// What such takes give, followed by what they leave, has exactly the elements that the pool had.
 pub fn takes_lose_nothing<T: Ordered>()
-    ensures { TakesLoseNothing before }
+    ensures { TakesLoseNothing T.before }
 {}
 
 /// Where the order tells any two elements apart, what a take gives is determined by the pool.
 pub fn one_least<T: TellsApart>()
-    ensures { OneLeast T.Ordered.before }
+    ensures { OneLeast T.before }
 {}

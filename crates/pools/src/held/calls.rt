@@ -9,7 +9,7 @@ use crate::refusal::PoolRefusal;
 /// The place of a least element.
 fn place_of_least<T: Ordered>(items: &[T]) -> usize
     requires { 0 < length items.now }
-    ensures { LeastAt before items.now (length items.now) result }
+    ensures { LeastAt T.before items.now (length items.now) result }
 {
     let mut least = 0;
     for i in 1..items.len() {
@@ -44,7 +44,7 @@ impl<'a, T: Ordered> Pool<'a, T> {
 
     /// Takes out a least element, or refuses where there is none; its place is then free again.
     pub fn take_least(&mut self) -> Result<T, PoolRefusal>
-        ensures { TakeAnswers before self.old self.new result }
+        ensures { TakeAnswers T.before self.old self.new result }
     {
         if self.count == 0 {
             return Err(PoolRefusal::Empty);
@@ -56,7 +56,7 @@ impl<'a, T: Ordered> Pool<'a, T> {
     /// The place of a least element.
     fn least_at(&self) -> usize
         requires { 0 < self.now.count }
-        ensures { LeastAt before (contents self.now) (length (contents self.now)) result }
+        ensures { LeastAt T.before (contents self.now) (length (contents self.now)) result }
     {
         let count = self.count;
         place_of_least(&self.places[0..count])
