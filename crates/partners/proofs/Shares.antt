@@ -1,5 +1,5 @@
 -- A busy number shared out among tries.
-use Rattle.std.proofs.Common.{◌≡◌, ℕ, ◌+◌, ◌/◌, ◌<◌, ◌≤◌, sym, refl, ◌∙◌, subst, le_trans, le-div_iff_mul-le, div-mul-le_self, arith}
+use Rattle.std.proofs.Common.{◌≡◌, ℕ, ◌+◌, ◌/◌, ◌<◌, ◌≤◌, refl, ◌∙◌, subst, le_trans, le-div_iff_mul-le, div-mul-le_self, arith}
 use native.Mathlib.Nat.{add-div_right}
 use Rattle.values.specs.declared.container.Container.{Container}
 use Rattle.partners.specs.declared.partner.Reply.{Reply}
