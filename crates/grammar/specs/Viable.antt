@@ -1,5 +1,5 @@
 -- How far symbols can go on to a condition.
-use Rattle.std.specs.Prelude.{◌≡◌, ℕ, List, [], ◌∷◌, ◌++◌}
+use Rattle.std.specs.Prelude.{◌≡◌, List, ◌++◌}
 use Rattle.grammar.specs.Symbols.{Symbol}
 use Rattle.grammar.specs.Grammar.{Kind, Tree, condition, Reads}
 

@@ -1,10 +1,10 @@
 -- Which bytes have a class.
-use Rattle.std.proofs.Common.{◌≡◌, ℕ, Bool, true, false, ◌⊎◌, sym, refl, ap, ◌∙◌, subst, inl, inr, ⊎_elim, arith}
+use Rattle.std.proofs.Common.{◌≡◌, ℕ, true, ◌⊎◌, refl, inl, inr, ⊎_elim, arith}
 use Rattle.std.proofs.lemmas.Bool.{cases_eq, false≢true}
 use Rattle.std.proofs.lemmas.Bool.Decides.{nat_tests}
 use Rattle.tokens.specs.declared.class.Class.{Class}
 use Rattle.tokens.specs.declared.class.Class.TheVariants.{Space, Letter, Digit, Minus, Sign, Parenthesis, Other}
-use Rattle.tokens.specs.Classes.{class, word_byte, space_byte, in_word, is_space}
+use Rattle.tokens.specs.Classes.{class, space_byte, is_space}
 
 pub minus_class : (b : ℕ) → b ≡ 45 → class b ≡ Minus
 unfolding class

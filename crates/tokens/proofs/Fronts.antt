@@ -1,6 +1,6 @@
 -- The token at the front, by the class of its first byte.
-use Rattle.std.proofs.Common.{◌≡◌, ℕ, zero, suc, ◌+◌, ◌-◌, ◌<◌, ◌≤◌, Bool, true, false, cond, eqb, ◌⊎◌, List, [], ◌∷◌, length, get_or, take, drop, Some, None, sym, refl, ap, ◌∙◌, subst, inl, inr, ⊎_elim, arith}
-use Rattle.std.proofs.lemmas.Bool.{cond-true, cond-false}
+use Rattle.std.proofs.Common.{◌≡◌, ℕ, zero, suc, ◌+◌, ◌<◌, ◌≤◌, true, ◌⊎◌, List, [], ◌∷◌, length, get_or, take, drop, None, sym, refl, ap, ◌∙◌, inl, inr, ⊎_elim, arith}
+use Rattle.std.proofs.lemmas.Bool.{cond-true}
 use Rattle.std.proofs.lemmas.Bool.Decides.{nat_tests}
 use Rattle.values.specs.declared.amount.Comparison.{Comparison}
 use Rattle.values.specs.declared.amount.Comparison.TheVariants.{Less, AtMost, Equal, Unequal, AtLeast, Greater}
@@ -8,9 +8,9 @@ use Rattle.tokens.specs.declared.class.Class.{Class}
 use Rattle.tokens.specs.declared.class.Class.TheVariants.{Space, Letter, Digit, Minus, Sign, Parenthesis, Other}
 use Rattle.tokens.specs.declared.token.Token.TheVariants as t
 use Rattle.tokens.specs.Classes.{class, word_byte, in_word}
-use Rattle.tokens.specs.Tokens.{run, front, front_by, IsSign, spelling}
-use Rattle.tokens.specs.Lexing.{Apt, bytes_of, long_sign}
-use Rattle.tokens.proofs.Classes.{minus_class, class_minus, class_sign, class_parenthesis}
+use Rattle.tokens.specs.Tokens.{run, front, front_by, spelling}
+use Rattle.tokens.specs.Lexing.{Apt, long_sign}
+use Rattle.tokens.proofs.Classes.{minus_class, class_minus, class_sign}
 
 pub front_at : (k : Class) (bs : List ℕ) → class (get_or bs 0 0) ≡ k → front bs ≡ front_by k bs
 front_at k bs e = ap (λ x. front_by x bs) e

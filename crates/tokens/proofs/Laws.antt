@@ -10,7 +10,7 @@ use Rattle.values.specs.declared.amount.Comparison.TheVariants.{Less, AtMost, Eq
 use Rattle.tokens.specs.declared.class.Class.{Class}
 use Rattle.tokens.specs.declared.class.Class.TheVariants.{Space, Letter, Digit, Minus, Sign, Parenthesis, Other}
 use Rattle.tokens.specs.Classes.{class, word_byte, space_byte, in_word, is_space}
-use Rattle.tokens.specs.Tokens.{Part, spelling, IsSign, NoWord, NoLonger, IsToken, a_word, a_minus_word, a_minus, a_parenthesis, a_long_sign, a_short_sign, a_further_byte, Tokenized, ended, space, token, run, sign_length, front, front_by, lexed, tokens, TokensOf}
+use Rattle.tokens.specs.Tokens.{Part, spelling, IsSign, NoWord, NoLonger, IsToken, a_word, a_minus_word, a_minus, a_parenthesis, a_long_sign, a_short_sign, a_further_byte, Tokenized, ended, space, token, run, sign_length, front, front_by, lexed, TokensOf}
 use Rattle.tokens.proofs.Classes.{minus_class, class_minus, class_sign, sign_class, space_class, space_byte_only}
 use Rattle.tokens.proofs.Spans.{span_le, span_whole, span_passes}
 use Rattle.tokens.proofs.Fronts.{front_at, front_minus, single_sign, run_pos}

@@ -1,15 +1,15 @@
 -- What tokens of signs, of parentheses and of other bytes say.
-use Rattle.std.proofs.Common.{◌≡◌, ℕ, Bool, true, false, cond, ◌⊎◌, List, [], ◌∷◌, sym, refl, ap, ◌∙◌, subst, inl, inr, arith}
+use Rattle.std.proofs.Common.{◌≡◌, ℕ, List, [], ◌∷◌, refl, ap, inl, inr, arith}
 use Rattle.std.proofs.lemmas.Bool.Decides.{nat_tests}
 use Rattle.values.specs.declared.amount.Comparison.{Comparison}
 use Rattle.values.specs.declared.amount.Comparison.TheVariants.{Less, AtMost, Equal, Unequal, AtLeast, Greater}
-use Rattle.grammar.specs.Symbols.{Symbol, opening, closing, sign, bad}
+use Rattle.grammar.specs.Symbols.{opening, closing, sign, bad}
 use Rattle.tokens.specs.declared.class.Class.{Class}
 use Rattle.tokens.specs.declared.class.Class.TheVariants.{Space, Letter, Digit, Minus, Sign, Parenthesis, Other}
 use Rattle.tokens.specs.declared.token.Token.TheVariants as t
 use Rattle.tokens.specs.Classes.{class}
-use Rattle.tokens.specs.Tokens.{spelling, IsSign}
-use Rattle.tokens.specs.Words.{symbol, symbol_by, sign_symbol, parenthesis_symbol}
+use Rattle.tokens.specs.Tokens.{spelling}
+use Rattle.tokens.specs.Words.{symbol, symbol_by}
 use Rattle.tokens.specs.Lexing.{Apt}
 use Rattle.tokens.proofs.Classes.{opening_class, closing_class, sign_class, class_minus}
 

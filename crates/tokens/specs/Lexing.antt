@@ -1,5 +1,5 @@
 -- What the parts of the lexer promise each other.
-use Rattle.std.specs.Prelude.{◌≡◌, ℕ, ◌<◌, ◌≤◌, Bool, cond, ◌⊎◌, List, [], ◌∷◌, length, take, Some, None, Option, ◌==◌, ◌≢◌, slice_index}
+use Rattle.std.specs.Prelude.{◌≡◌, ℕ, ◌<◌, cond, ◌⊎◌, List, [], ◌∷◌, length, take, Some, None, Option, ◌==◌, ◌≢◌, slice_index}
 use Rattle.values.specs.declared.amount.Comparison.{Comparison}
 use Rattle.values.specs.declared.amount.Comparison.TheVariants.{AtMost, Unequal, AtLeast}
 use Rattle.tokens.specs.declared.class.Class.TheVariants.{Letter, Digit, Minus}

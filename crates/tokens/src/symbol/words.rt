@@ -38,15 +38,15 @@ fn name(part: &[u8]) -> Option<Symbol>
 fn word(part: &[u8]) -> Option<Symbol>
     ensures { Says (word_symbol part.now) result }
 {
-    if part == b"and" {
+    if part == b"and".as_slice() {
         Some(Symbol::And)
-    } else if part == b"or" {
+    } else if part == b"or".as_slice() {
         Some(Symbol::Or)
-    } else if part == b"not" {
+    } else if part == b"not".as_slice() {
         Some(Symbol::Not)
-    } else if part == b"true" {
+    } else if part == b"true".as_slice() {
         Some(Symbol::Truth(true))
-    } else if part == b"false" {
+    } else if part == b"false".as_slice() {
         Some(Symbol::Truth(false))
     } else {
         name(part)

@@ -1,10 +1,10 @@
-use Rattle.std.proofs.Common.{◌≡◌, ℕ, ◌+◌, ◌<◌, ◌≤◌, List, ◌∷◌, length, take, drop, sym, ap, ◌∙◌, subst, arith, length-drop, rules}
+use Rattle.std.proofs.Common.{◌≡◌, ℕ, ◌+◌, ◌≤◌, List, ◌∷◌, length, drop, sym, ap, ◌∙◌, subst, arith, length-drop, rules}
 use mathlib.Core.Path.{subst⁻¹}
 use Rattle.std.proofs.lemmas.List.{take_rest}
 use Rattle.std.specs.List.{between}
 use Rattle.tokens.specs.declared.token.Token.{Token}
-use Rattle.tokens.specs.Tokens.{tokens_from, front, spaces}
-use Rattle.tokens.specs.Lexing.{bytes_of, FrontIs, Nexts}
+use Rattle.tokens.specs.Tokens.{tokens_from}
+use Rattle.tokens.specs.Lexing.{FrontIs, Nexts}
 use Rattle.tokens.proofs.Nexts.{next_token, next_none, front_long}
 use Rattle.tokens.proofs.lexer.Lexer.next.Goals as goal
 
@@ -32,7 +32,7 @@ pub overflow_add-self : goal.overflow_add-self
 overflow_add-self c = let h = fits c in search rules
 
 pub invariant_of-self : goal.invariant_of-self
-invariant_of-self c = (fits c, tt)
+invariant_of-self c = record { within = fits c }
 
 pub returns : goal.returns
 returns c =

@@ -1,4 +1,4 @@
-use Rattle.std.proofs.Common.{◌≡◌, ℕ, ◌<◌, ◌≤◌, true, false, length, get_or, sym, ap, ◌∙◌, subst, arith}
+use Rattle.std.proofs.Common.{◌≡◌, ◌<◌, ◌≤◌, true, false, length, get_or, sym, subst, arith}
 use Rattle.tokens.specs.Classes.{space_byte}
 use Rattle.tokens.proofs.Spans.{span_more, span_stop, span_end}
 use Rattle.tokens.proofs.lexer.Lexer.skip_spaces.Goals as goal

@@ -1,4 +1,4 @@
-use Rattle.std.proofs.Common.{◌≡◌, ◌+◌, ◌-◌, ◌≤◌, length, drop}
+use Rattle.std.proofs.Common.{◌≡◌, ◌+◌, ◌-◌, length, drop}
 use Rattle.tokens.specs.Tokens.{spaces}
 use Rattle.tokens.proofs.lexer.Lexer.skip_spaces.Given as goal
 

@@ -1,5 +1,4 @@
-use Rattle.std.proofs.Common.{◌≡◌, ℕ, ◌+◌, ◌-◌, ◌<◌, [], ◌∷◌, length, get_or, take, drop, sym, refl, ap, ◌∙◌, inl, inr, arith}
-use Rattle.tokens.specs.Classes.{class}
+use Rattle.std.proofs.Common.{◌≡◌, ◌+◌, ◌-◌, [], ◌∷◌, take, sym, ap, ◌∙◌, inr, arith}
 use Rattle.tokens.proofs.Classes.{minus_class}
 use Rattle.tokens.proofs.Fronts.{front_minus, take_first, minus_apt, first_of_take}
 use Rattle.tokens.proofs.lexer.tokens.minus.Goals as goal

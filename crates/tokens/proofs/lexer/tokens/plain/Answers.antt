@@ -1,4 +1,4 @@
-use Rattle.std.proofs.Common.{◌≡◌, ℕ, ◌+◌, ◌-◌, ◌<◌, ◌≤◌, List, [], ◌∷◌, length, get_or, take, drop, sym, refl, ap, ◌∙◌, inl, inr, arith}
+use Rattle.std.proofs.Common.{◌≡◌, ◌-◌, [], ◌∷◌, get_or, take, sym, refl, ap, ◌∙◌, inl, arith}
 use Rattle.tokens.specs.declared.class.Class.TheVariants.{Letter, Digit}
 use Rattle.tokens.specs.Classes.{class}
 use Rattle.tokens.proofs.Fronts.{front_at, front_single, front_short_sign, take_first, first_of_take, run_pos}

@@ -1,4 +1,4 @@
-use Rattle.std.proofs.Common.{sym, ◌∙◌, arith}
+use Rattle.std.proofs.Common.{sym, arith}
 use Rattle.tokens.specs.Classes.{word_byte}
 use Rattle.tokens.proofs.Spans.{span_more, span_stop, span_end}
 use Rattle.tokens.proofs.lexer.tokens.run_length.Goals as goal

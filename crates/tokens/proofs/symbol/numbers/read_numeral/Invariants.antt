@@ -1,4 +1,4 @@
-use Rattle.std.proofs.Common.{◌≡◌, ◌^◌, ◌<◌, length, drop}
+use Rattle.std.proofs.Common.{◌≡◌, ◌^◌, ◌<◌, drop}
 use Rattle.tokens.specs.Words.{decimal, all_digits}
 use Rattle.tokens.proofs.symbol.numbers.read_numeral.Given as goal
 
