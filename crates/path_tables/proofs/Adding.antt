@@ -1,8 +1,8 @@
 -- Pairs that are added one by one.
-use Rattle.std.proofs.Common.{◌≡◌, ℕ, ◌<◌, ◌≤◌, true, ◌⊎◌, List, length, Decides, sym, inl, inr, ⊎_elim, arith}
+use Rattle.std.proofs.Common.{◌≡◌, ℕ, ◌<◌, true, ◌⊎◌, List, length, Decides, sym, inl, inr, ⊎_elim, arith}
 use Rattle.std.proofs.lemmas.Bool.Decides.{Decides-like}
 use Rattle.parts.specs.declared.Link.{Link}
-use Rattle.path_laws.specs.Paths.{link_at, Linked, Leads}
+use Rattle.path_laws.specs.Paths.{Linked, Leads}
 use Rattle.path_laws.specs.Tables.{Collects}
 use Rattle.path_tables.specs.declared.pairs.ActivityPairs.{ActivityPairs}
 use Rattle.path_tables.specs.Pairs.{paired, OnePairMore}
