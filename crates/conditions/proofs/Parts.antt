@@ -1,11 +1,10 @@
 -- What the symbols after a part mean for it.
-use Rattle.std.proofs.Common.{◌≡◌, ℕ, Bool, true, false, List, [], ◌∷◌, ◌++◌, Some, None, Option, sym, refl, ap, ◌∙◌, subst, append-nil, arith}
+use Rattle.std.proofs.Common.{◌≡◌, ℕ, List, [], ◌∷◌, ◌++◌, Some, None, Option, refl, ap, ◌∙◌, subst, append-nil, arith}
 use mathlib.Core.Path.{subst⁻¹}
-use Rattle.values.specs.declared.amount.Comparison.{Comparison}
-use Rattle.grammar.specs.Symbols.{Symbol, Operand, sign, operand, bad}
+use Rattle.grammar.specs.Symbols.{Symbol, bad}
 use Rattle.grammar.specs.Grammar.{Kind, transition, Level, Tree, Reads}
 use Rattle.grammar.specs.Faults.{Located, symbols}
-use Rattle.grammar.specs.Parsing.{Done, Failed, place_of, want_sign, want_operand, want, have, dead, step, feed}
+use Rattle.grammar.specs.Parsing.{Done, Failed, place_of, want_sign, want_operand, want}
 use Rattle.grammar.proofs.Steps.{feed_from, runs}
 use Rattle.grammar.proofs.Joins.{Barred, no_sign, no_operand}
 use Rattle.tokens.specs.declared.symbol.Symbol as code

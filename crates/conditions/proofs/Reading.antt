@@ -1,23 +1,23 @@
 -- The steps of reading conditions, terms and factors.
-use Rattle.std.proofs.Common.{◌≡◌, ℕ, ◌<◌, ◌≤◌, Bool, true, false, ◌⊎◌, List, [], ◌∷◌, ◌++◌, length, Some, None, Ok, Err, Option, Result, sym, refl, ap, ◌∙◌, subst, inl, inr, ⊎_elim, arith}
+use Rattle.std.proofs.Common.{◌≡◌, ℕ, Bool, true, List, [], ◌∷◌, length, Some, None, Ok, Err, Option, Result, sym, refl, ap, ◌∙◌, subst, inl, inr, arith}
 use mathlib.Core.Path.{subst⁻¹}
 use Rattle.std.proofs.lemmas.Bool.{false≢true}
 use Rattle.grammar.specs.Symbols as g
-use Rattle.grammar.specs.Grammar.{Kind, Level, Test, Tree, condition, term, factor}
+use Rattle.grammar.specs.Grammar.{Kind, Level, Test, condition, factor}
 use Rattle.grammar.specs.Faults.{Located}
 use Rattle.grammar.specs.Parsing.{Done, Failed, place_of, want, dead, step, heads, is_or, is_and, is_closing}
-use Rattle.grammar.proofs.Joins.{Barred, none_fails, truth_done, not_done, not_fails, open_fails, close_fails, parentheses_done}
+use Rattle.grammar.proofs.Joins.{Barred, none_fails, close_fails, parentheses_done}
 use Rattle.tokens.specs.declared.fault.Fault.{Fault}
 use Rattle.tokens.specs.declared.symbol.Symbol.{Symbol}
 use Rattle.tokens.specs.declared.symbol.Symbol.TheVariants.{Or, And, Not, Truth as TruthWord, Open, Close, Operand, Sign, Link}
 use Rattle.tokens.specs.declared.symbol.Operand as operands
 use Rattle.tokens.specs.Symbols.{meaning}
-use Rattle.tokens.specs.Following.{to_come, text_of}
+use Rattle.tokens.specs.Following.{to_come}
 use Rattle.conditions.specs.declared.parser.Parser.{Parser}
 use Rattle.conditions.specs.declared.ground.Ground.{Ground}
-use Rattle.conditions.specs.Truths.{Truth, negated, of_bool}
+use Rattle.conditions.specs.Truths.{Truth}
 use Rattle.conditions.specs.Values.{value, kind_of, tests_of}
-use Rattle.conditions.specs.Steps.{Kept, Ready, ReadyBy, rest, rest_by, headed, end_of, Read, ParsedFrom, Parsed, Advanced, Closed}
+use Rattle.conditions.specs.Steps.{Kept, Ready, ReadyBy, rest, rest_by, headed, end_of, Read, ParsedFrom, Closed}
 use Rattle.conditions.proofs.Parts.{bad_follows}
 
 -- what was said over the ground and the text of one is said of the other

@@ -1,9 +1,8 @@
 -- A text as a whole.
-use Rattle.std.proofs.Common.{◌≡◌, ℕ, Bool, List, [], ◌∷◌, map, length, Some, None, Ok, Err, Option, Result, sym, refl, ap, ◌∙◌, subst}
+use Rattle.std.proofs.Common.{◌≡◌, ℕ, Bool, List, [], ◌∷◌, map, length, Some, None, Ok, Err, Result, ap, ◌∙◌, subst}
 use mathlib.Core.Path.{subst⁻¹}
-use Rattle.grammar.specs.Grammar.{Kind, Test, Tree, condition}
-use Rattle.grammar.specs.Faults.{Located, FaultAt}
-use Rattle.grammar.specs.Parsing.{Done, Failed}
+use Rattle.grammar.specs.Grammar.{Kind, Test, condition}
+use Rattle.grammar.specs.Parsing.{Done}
 use Rattle.grammar.proofs.OneTree as trees
 use Rattle.grammar.proofs.Whole.{whole_reads, failed_fault, left_over_fault, one_fault}
 use Rattle.tokens.specs.declared.fault.Fault.{Fault}
@@ -15,8 +14,8 @@ use Rattle.conditions.specs.declared.ground.Ground.{Ground}
 use Rattle.conditions.specs.declared.parser.Parser.{Parser}
 use Rattle.conditions.specs.Truths.{Truth, holds}
 use Rattle.conditions.specs.Values.{value, kind_of, tests_of}
-use Rattle.conditions.specs.Texts.{Reading, FaultPlace, Holding, Weighed, Checked, OneReading, OneVerdict}
-use Rattle.conditions.specs.Steps.{Parsed, ParsedFrom, Read, Ready, ReadyBy, rest, rest_by, end_of, Ended}
+use Rattle.conditions.specs.Texts.{FaultPlace, Holding, Weighed, Checked, OneReading, OneVerdict}
+use Rattle.conditions.specs.Steps.{Parsed, ParsedFrom, Ready, ReadyBy, rest, rest_by, end_of, Ended}
 
 -- a new parser has the whole text before it
 pub record Begun (text : List ℕ) (ground : Ground) (p : Parser) : Type 0 where

@@ -1,5 +1,5 @@
 -- A fault's place is within the text.
-use Rattle.std.proofs.Common.{◌≡◌, ℕ, suc, ◌+◌, ◌≤◌, List, [], ◌∷◌, ◌++◌, map, length, sym, refl, ap, ◌∙◌, subst, arith, length-append}
+use Rattle.std.proofs.Common.{◌≡◌, ℕ, ◌+◌, ◌≤◌, List, [], ◌∷◌, ◌++◌, map, length, ap, arith, length-append}
 use Rattle.grammar.specs.Symbols.{Symbol}
 use Rattle.grammar.specs.Grammar.{Kind}
 use Rattle.grammar.specs.Faults.{Located, at_symbol, at_end}

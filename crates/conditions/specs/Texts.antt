@@ -4,7 +4,6 @@ use Rattle.grammar.specs.Grammar.{Kind, Test, Tree, condition, Reads}
 use Rattle.grammar.specs.Faults.{FaultAt, symbols}
 use Rattle.tokens.specs.declared.fault.Fault.{Fault}
 use Rattle.tokens.specs.Following.{symbols_of}
-use Rattle.tokens.specs.Tokens.{TokensOf}
 use Rattle.conditions.specs.declared.text.Text.{Text}
 use Rattle.conditions.specs.Truths.{Truth, holds}
 use Rattle.conditions.specs.Values.{value}

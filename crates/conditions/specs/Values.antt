@@ -1,5 +1,5 @@
 -- The value of a reading.
-use Rattle.std.specs.Prelude.{ℕ, Bool, true, false, cond, List, [], ◌∷◌, map, ℤ, Some, None, Option, ◌==◌}
+use Rattle.std.specs.Prelude.{ℕ, Bool, false, cond, List, [], ◌∷◌, map, ℤ, Some, Option, ◌==◌}
 use Rattle.values.specs.declared.container.Container.{Container}
 use Rattle.values.specs.Layout.{field_at}
 use Rattle.grammar.specs.Symbols.{Operand, field, number}

@@ -1,7 +1,7 @@
 -- The tokens found meet the laws of tokens, and no others do.
 use Rattle.std.proofs.Common.{◌≡◌, ℕ, zero, suc, ◌+◌, ◌<◌, ◌≤◌, true, false, not, ◌&&◌, eqb, ◌⊎◌, List, [], ◌∷◌, ◌++◌, length, get_or, take, drop, sym, refl, ap, ◌∙◌, subst, inl, inr, ⊎_elim, arith, length-drop}
 use mathlib.Core.Path.{subst⁻¹}
-use Rattle.std.specs.List.{AllByRecursion as All}
+use Rattle.std.specs.List.{AllByRecursion}
 use Rattle.std.proofs.lemmas.List.{take-append-drop, take_at, drop_at, length-take-le, length-append}
 use Rattle.std.proofs.lemmas.Bool.{true≢false, false≢true, cond-true, cond-false, cond_both, cases_Bool, cases_eq}
 use Rattle.std.proofs.lemmas.Bool.Decides.{nat_tests}
@@ -66,13 +66,13 @@ record Taken (w rest : List ℕ) : Type 0 where
   no_space : space_byte (get_or (w ++ rest) 0 0) ≡ false
   whole : length w ≡ front (w ++ rest)
 
-word_taken : (w rest : List ℕ) → 0 < length w → All (λ b. word_byte b ≡ true) w → NoWord rest → Taken w rest
+word_taken : (w rest : List ℕ) → 0 < length w → AllByRecursion (λ b. word_byte b ≡ true) w → NoWord rest → Taken w rest
 word_taken [] rest some all end = absurd (omega arith)
 word_taken (b ∷ w) rest some all end =
     let at = front_word (class b) (b ∷ w ++ rest) all.0 in
     record { some = some; no_space = at.0; whole = sym (at.1 ∙ span_whole word_byte (b ∷ w) rest all (run_stop rest end)) }
 
-minus_taken : (w rest : List ℕ) → All (λ b. word_byte b ≡ true) w → NoWord rest → Taken (45 ∷ w) rest
+minus_taken : (w rest : List ℕ) → AllByRecursion (λ b. word_byte b ≡ true) w → NoWord rest → Taken (45 ∷ w) rest
 minus_taken w rest all end =
     record {
       some = omega arith;
@@ -118,7 +118,7 @@ only_lexed p bs ts (token {w = w} {bs = rest} {ts = us} one more) =
 word_token : (xs : List ℕ) → 1 ≤ run xs → IsToken (take (run xs) xs) (drop (run xs) xs)
 word_token xs some = a_word (omega (arith, length-take-le (run xs) xs (span_le word_byte xs))) (span_passes word_byte xs) (run_stopped xs)
 
-minus_token : (b : ℕ) (w rest : List ℕ) → b ≡ 45 → All (λ x. word_byte x ≡ true) w → NoWord rest → IsToken (b ∷ w) rest
+minus_token : (b : ℕ) (w rest : List ℕ) → b ≡ 45 → AllByRecursion (λ x. word_byte x ≡ true) w → NoWord rest → IsToken (b ∷ w) rest
 minus_token b [] rest e all end = subst⁻¹ (λ x. IsToken (x ∷ []) rest) e (a_minus end)
 minus_token b (c ∷ w) rest e all end = subst⁻¹ (λ x. IsToken (x ∷ c ∷ w) rest) e (a_minus_word (omega arith) all end)
 

@@ -2,7 +2,7 @@
 use Rattle.std.proofs.Common.{◌≡◌, ℕ, suc, ◌+◌, ◌<◌, ◌≤◌, Bool, true, false, List, [], ◌∷◌, ◌++◌, length, get_or, take, drop, ap, ◌∙◌, arith}
 use Rattle.std.proofs.lemmas.List.{drop_all, drop_more, get_or_past}
 use Rattle.std.proofs.lemmas.Bool.{cond-true, cond-false, cond_both}
-use Rattle.std.specs.List.{AllByRecursion as All}
+use Rattle.std.specs.List.{AllByRecursion}
 use Rattle.tokens.specs.Tokens.{span}
 
 pub span_more : (f : ℕ → Bool) (xs : List ℕ) (i : ℕ) → i < length xs → f (get_or xs i 0) ≡ true → span f (drop i xs) ≡ suc (span f (drop (i + 1) xs))
@@ -24,10 +24,10 @@ first_past xs h = get_or_past xs 0 0 (omega arith)
 pub second_past : (xs : List ℕ) → length xs < 2 → get_or xs 1 0 ≡ 0
 second_past xs h = get_or_past xs 1 0 (omega arith)
 
-pub span_whole : (f : ℕ → Bool) (w rest : List ℕ) → All (λ b. f b ≡ true) w → span f rest ≡ 0 → span f (w ++ rest) ≡ length w
+pub span_whole : (f : ℕ → Bool) (w rest : List ℕ) → AllByRecursion (λ b. f b ≡ true) w → span f rest ≡ 0 → span f (w ++ rest) ≡ length w
 span_whole f [] rest all stop = stop
 span_whole f (b ∷ w) rest all stop = cond-true (f b) _ 0 all.0 ∙ ap suc (span_whole f w rest all.1 stop)
 
-pub span_passes : (f : ℕ → Bool) (xs : List ℕ) → All (λ b. f b ≡ true) (take (span f xs) xs)
+pub span_passes : (f : ℕ → Bool) (xs : List ℕ) → AllByRecursion (λ b. f b ≡ true) (take (span f xs) xs)
 span_passes f [] = tt
-span_passes f (x ∷ xs) = cond_both (f x) (suc (span f xs)) 0 (λ n. All (λ b. f b ≡ true) (take n (x ∷ xs))) (λ e. (e, span_passes f xs)) (λ _. tt)
+span_passes f (x ∷ xs) = cond_both (f x) (suc (span f xs)) 0 (λ n. AllByRecursion (λ b. f b ≡ true) (take n (x ∷ xs))) (λ e. (e, span_passes f xs)) (λ _. tt)

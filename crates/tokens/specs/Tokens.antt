@@ -1,6 +1,6 @@
 -- The tokens of a text: what they must be, and a function that finds them.
 use Rattle.std.specs.Prelude.{◌≡◌, ℕ, zero, suc, ◌+◌, ◌-◌, ◌<◌, Bool, true, false, cond, not, ◌&&◌, ◌⊎◌, List, [], ◌∷◌, ◌++◌, length, take, drop, ◌==◌, slice_index}
-use Rattle.std.specs.List.{AllByRecursion as All}
+use Rattle.std.specs.List.{AllByRecursion}
 use Rattle.values.specs.declared.amount.Comparison.{Comparison}
 use Rattle.values.specs.declared.amount.Comparison.TheVariants.{Less, AtMost, Equal, Unequal, AtLeast, Greater}
 use Rattle.tokens.specs.declared.class.Class.{Class}
@@ -35,9 +35,9 @@ NoLonger b (c ∷ bs) = IsSign (b ∷ c ∷ []) → ⊥
 -- these bytes are a token where those that follow are the rest
 pub data IsToken : List ℕ → List ℕ → Type 0 where
   -- a word is a longest run of letters and digits
-  a_word : {w rest : List ℕ} → 0 < length w → All (λ b. word_byte b ≡ true) w → NoWord rest → IsToken w rest
+  a_word : {w rest : List ℕ} → 0 < length w → AllByRecursion (λ b. word_byte b ≡ true) w → NoWord rest → IsToken w rest
   -- a minus is joined to the word directly after it
-  a_minus_word : {w rest : List ℕ} → 0 < length w → All (λ b. word_byte b ≡ true) w → NoWord rest → IsToken (45 ∷ w) rest
+  a_minus_word : {w rest : List ℕ} → 0 < length w → AllByRecursion (λ b. word_byte b ≡ true) w → NoWord rest → IsToken (45 ∷ w) rest
   -- and to nothing else
   a_minus : {rest : List ℕ} → NoWord rest → IsToken (45 ∷ []) rest
   a_parenthesis : {b : ℕ} {rest : List ℕ} → class b ≡ Parenthesis → IsToken (b ∷ []) rest

@@ -1,4 +1,4 @@
-use Rattle.std.proofs.Common.{◌≡◌, List, ◌∷◌, length, Ok, Err, Result, sym, refl, ap, ◌∙◌, subst, arith}
+use Rattle.std.proofs.Common.{List, ◌∷◌, length, Ok, Err, sym, refl, ap, ◌∙◌, subst, arith}
 use mathlib.Core.Path.{subst⁻¹}
 use Rattle.std.proofs.lemmas.Result.{err_from_is_err_and}
 use Rattle.grammar.specs.Grammar.{Level, Tree, condition, term, factor}
@@ -6,13 +6,11 @@ use Rattle.grammar.specs.Faults.{Located}
 use Rattle.grammar.specs.Parsing.{is_or, is_and}
 use Rattle.grammar.specs.Symbols.{truth_word}
 use Rattle.grammar.proofs.Joins.{ors, ands, Grown, grown_none, grown_more, all_done, first_fails, later_fails, truth_done, not_done, not_fails, open_fails}
-use Rattle.tokens.specs.Following.{to_come, text_of}
-use Rattle.tokens.specs.Symbols.{meaning}
 use Rattle.conditions.specs.declared.ground.Ground.{Ground}
 use Rattle.conditions.specs.declared.parser.Parser.{Parser}
 use Rattle.conditions.specs.Truths.{Truth, negated, both, either}
 use Rattle.conditions.specs.Values.{value, kind_of, tests_of}
-use Rattle.conditions.specs.Steps.{Kept, Parsed, rest, end_of}
+use Rattle.conditions.specs.Steps.{Kept, Parsed, end_of}
 use Rattle.conditions.proofs.Parts.{kept_then, kept_lexed, followed, followed_none, took_as, bad_follows}
 use Rattle.conditions.proofs.Reading.{from_kept, heads_ahead, ahead_or, ahead_and, no_first, stuck_at, stuck_end, closes}
 use Rattle.conditions.proofs.parser.Parser.+condition_factor_term.Goals as goal
@@ -140,22 +138,22 @@ factor-returns-in_default-symbol t c =
       parsed = stuck_at took (no_first c.in-Some.symbol c.in_default-symbol.not-Not c.in_default-symbol.not-Open c.in_default-symbol.not-Truth c.in_default-symbol.not-Operand c.in_default-symbol.not-Link _);
     }
 
-pub factor-returns-in_err-value : goal.factor-returns-in_err-value
-factor-returns-in_err-value t c =
-    let p = err_from_is_err_and c.from_residual-in_err-value.result c.from_residual-in_err-value.ensures.1 in
+pub factor-returns-in_err-value-in-Not : goal.factor-returns-in_err-value-in-Not
+factor-returns-in_err-value-in-Not t c =
+    let p = err_from_is_err_and c.from_residual-in_err-value-in-Not.result c.from_residual-in_err-value-in-Not.ensures.1 in
     let took = took_as (end_of c.args.self.now) c.in_ok-first.first.symbol c.in_ok-first.ensures.symbol c.in-Some.is c.in-Not.is in
     let before = kept_lexed c.args.self.now c.symbol.new.self c.in_ok-first.ensures.text in
-    let ended = from_kept factor _ (Err c.in_err-value.field-0.0) c.factor.new.self before c.in_err-value.ensures.parsed in
+    let ended = from_kept factor _ (Err c.in_err-value-in-Not.field-0.0) c.factor.new.self before c.in_err-value-in-Not.ensures.parsed in
     record {
-      kept = kept_then before c.in_err-value.ensures.kept;
+      kept = kept_then before c.in_err-value-in-Not.ensures.kept;
       parsed = subst⁻¹ (λ r. Parsed factor c.args.self.now r c.factor.new.self) (p.1 ∙ ap Err p.2) (not_fails took ended);
     }
 
-pub factor-returns-in_ok-value : goal.factor-returns-in_ok-value
-factor-returns-in_ok-value t c =
+pub factor-returns-in_ok-value-in-Not : goal.factor-returns-in_ok-value-in-Not
+factor-returns-in_ok-value-in-Not t c =
     let took = took_as (end_of c.args.self.now) c.in_ok-first.first.symbol c.in_ok-first.ensures.symbol c.in-Some.is c.in-Not.is in
     let before = kept_lexed c.args.self.now c.symbol.new.self c.in_ok-first.ensures.text in
-    let told = c.in_ok-value.ensures in
+    let told = c.in_ok-value-in-Not.ensures in
     record {
       kept = kept_then before told.kept;
       parsed = record {
@@ -165,43 +163,43 @@ factor-returns-in_ok-value t c =
       };
     }
 
-pub factor-returns-in_err-value-2 : goal.factor-returns-in_err-value-2
-factor-returns-in_err-value-2 t c =
-    let p = err_from_is_err_and c.from_residual-in_err-value-2.result c.from_residual-in_err-value-2.ensures.1 in
+pub factor-returns-in_err-value-in-Open : goal.factor-returns-in_err-value-in-Open
+factor-returns-in_err-value-in-Open t c =
+    let p = err_from_is_err_and c.from_residual-in_err-value-in-Open.result c.from_residual-in_err-value-in-Open.ensures.1 in
     let took = took_as (end_of c.args.self.now) c.in_ok-first.first.symbol c.in_ok-first.ensures.symbol c.in-Some.is c.in-Open.is in
     let before = kept_lexed c.args.self.now c.symbol.new.self c.in_ok-first.ensures.text in
-    let ended = from_kept condition _ (Err c.in_err-value-2.field-0.0) c.condition.new.self before c.in_err-value-2.ensures.parsed in
+    let ended = from_kept condition _ (Err c.in_err-value-in-Open.field-0.0) c.condition.new.self before c.in_err-value-in-Open.ensures.parsed in
     record {
-      kept = kept_then before c.in_err-value-2.ensures.kept;
+      kept = kept_then before c.in_err-value-in-Open.ensures.kept;
       parsed = subst⁻¹ (λ r. Parsed factor c.args.self.now r c.condition.new.self) (p.1 ∙ ap Err p.2) (open_fails took ended);
     }
 
-pub factor-returns-in_ok-value-2 : goal.factor-returns-in_ok-value-2
-factor-returns-in_ok-value-2 t c =
+pub factor-returns-in_ok-value-in-Open : goal.factor-returns-in_ok-value-in-Open
+factor-returns-in_ok-value-in-Open t c =
     let took = took_as (end_of c.args.self.now) c.in_ok-first.first.symbol c.in_ok-first.ensures.symbol c.in-Some.is c.in-Open.is in
     let before = kept_lexed c.args.self.now c.symbol.new.self c.in_ok-first.ensures.text in
-    let told = c.in_ok-value-2.ensures in
+    let told = c.in_ok-value-in-Open.ensures in
     let inside = kept_then before told.kept in
     record {
       kept = kept_then inside c.close.ensures.kept;
-      parsed = closes c.condition.new.self c.in_ok-value-2.value c.close.result c.close.new.self took (ap length inside.text_is) told.parsed c.close.ensures.closed;
+      parsed = closes c.condition.new.self c.in_ok-value-in-Open.value c.close.result c.close.new.self took (ap length inside.text_is) told.parsed c.close.ensures.closed;
     }
 
-pub factor-returns-in_err-advance : goal.factor-returns-in_err-advance
-factor-returns-in_err-advance t c =
-    let p = err_from_is_err_and c.from_residual-in_err-advance.result c.from_residual-in_err-advance.ensures.1 in
+pub factor-returns-in_err-advance-in-Truth : goal.factor-returns-in_err-advance-in-Truth
+factor-returns-in_err-advance-in-Truth t c =
+    let p = err_from_is_err_and c.from_residual-in_err-advance-in-Truth.result c.from_residual-in_err-advance-in-Truth.ensures.1 in
     let took = took_as (end_of c.args.self.now) c.in_ok-first.first.symbol c.in_ok-first.ensures.symbol c.in-Some.is c.in-Truth.is in
     let before = kept_lexed c.args.self.now c.symbol.new.self c.in_ok-first.ensures.text in
     record {
-      kept = kept_then before c.in_err-advance.ensures.kept;
-      parsed = subst⁻¹ (λ r. Parsed factor c.args.self.now r c.advance.new.self) (p.1 ∙ ap Err p.2) (bad_follows (truth_done {means = λ (x : Tree). Unit {0}} took tt) c.in_err-advance.ensures.advanced);
+      kept = kept_then before c.in_err-advance-in-Truth.ensures.kept;
+      parsed = subst⁻¹ (λ r. Parsed factor c.args.self.now r c.advance.new.self) (p.1 ∙ ap Err p.2) (bad_follows (truth_done {means = λ (x : Tree). Unit {0}} took tt) c.in_err-advance-in-Truth.ensures.advanced);
     }
 
-pub factor-returns-in_ok-advance : goal.factor-returns-in_ok-advance
-factor-returns-in_ok-advance t c =
+pub factor-returns-in_ok-advance-in-Truth : goal.factor-returns-in_ok-advance-in-Truth
+factor-returns-in_ok-advance-in-Truth t c =
     let took = took_as (end_of c.args.self.now) c.in_ok-first.first.symbol c.in_ok-first.ensures.symbol c.in-Some.is c.in-Truth.is in
     let before = kept_lexed c.args.self.now c.symbol.new.self c.in_ok-first.ensures.text in
-    let told = c.in_ok-advance.ensures in
+    let told = c.in_ok-advance-in-Truth.ensures in
     record {
       kept = kept_then before told.kept;
       parsed = record {

@@ -1,4 +1,4 @@
-use Rattle.std.proofs.Common.{◌≡◌, ◌+◌, ◌*◌, ◌<◌, ◌≤◌, false, length}
+use Rattle.std.proofs.Common.{◌≡◌, ◌+◌, ◌*◌, ◌≤◌, false, length}
 use Rattle.grammar.specs.Grammar.{condition, term}
 use Rattle.grammar.specs.Parsing.{heads, is_and}
 use Rattle.grammar.proofs.Joins.{Grown}

@@ -1,4 +1,4 @@
-use Rattle.std.proofs.Common.{◌≡◌, ℕ, Bool, List, ◌∷◌, length, Ok, Err, Result, sym, refl, ap, ◌∙◌, subst, arith}
+use Rattle.std.proofs.Common.{◌≡◌, ℕ, Bool, List, ◌∷◌, length, Err, Result, sym, refl, ap, ◌∙◌, subst, arith}
 use mathlib.Core.Path.{subst⁻¹}
 use Rattle.std.proofs.lemmas.Result.{err_from_is_err_and}
 use Rattle.values.specs.declared.amount.Comparison.{Comparison}
@@ -10,7 +10,7 @@ use Rattle.tokens.specs.declared.fault.Fault.{Fault}
 use Rattle.tokens.specs.Symbols.{side}
 use Rattle.tokens.specs.Following.{to_come}
 use Rattle.conditions.specs.Truths.{compared}
-use Rattle.conditions.specs.Steps.{ParsedFrom, end_of, NotFirst, IsSign, IsOperand}
+use Rattle.conditions.specs.Steps.{ParsedFrom, end_of, NotFirst, IsOperand}
 use Rattle.conditions.specs.Values.{over_output}
 use Rattle.conditions.proofs.Parts.{kept_then, bad_follows, sign_barred, operand_barred}
 use Rattle.conditions.proofs.parser.Parser.comparison.Goals as goal

@@ -1,4 +1,4 @@
-use Rattle.std.proofs.Common.{◌≡◌, ◌∷◌, refl}
+use Rattle.std.proofs.Common.{◌∷◌, refl}
 use mathlib.Core.Path.{subst⁻¹}
 use Rattle.grammar.specs.Grammar.{factor}
 use Rattle.grammar.specs.Parsing.{Failed}

@@ -1,7 +1,7 @@
-use Rattle.std.proofs.Common.{◌≡◌, ◌∷◌, length, Ok, Err, Result, sym, refl, ap, ◌∙◌, subst}
+use Rattle.std.proofs.Common.{◌∷◌, length, Err, refl, ap, ◌∙◌}
 use mathlib.Core.Path.{subst⁻¹}
 use Rattle.std.proofs.lemmas.Result.{err_from_is_err_and}
-use Rattle.tokens.specs.Following.{FollowsBy, text_of, to_come}
+use Rattle.tokens.specs.Following.{text_of, to_come}
 use Rattle.conditions.specs.declared.parser.Parser.{Parser}
 use Rattle.conditions.specs.Steps.{Signs, IsSign}
 use Rattle.conditions.proofs.Parts.{not_first_end, not_first_other, bad_no_sign, followed, followed_none}

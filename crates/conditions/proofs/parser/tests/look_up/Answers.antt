@@ -1,4 +1,4 @@
-use Rattle.std.proofs.Common.{◌≡◌, ℕ, ◌+◌, ◌<◌, Bool, true, false, cond, ◌||◌, eqb, List, ◌∷◌, length, get_or, drop, sym, ap, ◌∙◌, arith}
+use Rattle.std.proofs.Common.{◌≡◌, ℕ, ◌+◌, ◌<◌, false, cond, ◌||◌, eqb, List, length, get_or, drop, sym, ap, ◌∙◌}
 use Rattle.std.proofs.lemmas.List.{drop_more, drop_all}
 use Rattle.std.proofs.lemmas.Bool.{cond-true, cond-false, eq-eqb, ne_eqb}
 use Rattle.grammar.specs.Grammar.{member}
@@ -19,7 +19,7 @@ status_at ls i n h = ap (λ l. status_of l n) (drop_more ls i blank h)
 pub returns-then-one-link : goal.returns-then-one-link
 returns-then-one-link c =
     let ls = c.args.incoming.now in
-    let i = c.loop-one.one_Index in
+    let i = c.loop-one.one-index in
     let n = c.args.link in
     let same = eq-eqb n (get_or ls i blank).link (sym c.if-one-link.true) in (
       c.loop-one.invariant.0 ∙ member_at ls i n c.loop-one-test.true ∙ ap (λ b. b || member n (links_of (drop (i + 1) ls))) same,
@@ -29,7 +29,7 @@ returns-then-one-link c =
 pub loop-one-preserved : goal.loop-one-preserved
 loop-one-preserved c =
     let ls = c.args.incoming.now in
-    let i = c.loop-one.one_Index in
+    let i = c.loop-one.one-index in
     let n = c.args.link in
     let other = ne_eqb n (get_or ls i blank).link (λ e. c.if-one-link.false (sym e)) in (
       c.loop-one.invariant.0 ∙ member_at ls i n c.loop-one-test.true ∙ ap (λ b. b || member n (links_of (drop (i + 1) ls))) other,
@@ -37,4 +37,4 @@ loop-one-preserved c =
     )
 
 pub returns : goal.returns
-returns c = c.loop-one.invariant.0 ∙ ap (λ l. member c.args.link (links_of l)) (drop_all c.loop-one.one_Index c.args.incoming.now c.loop-one-test.false)
+returns c = c.loop-one.invariant.0 ∙ ap (λ l. member c.args.link (links_of l)) (drop_all c.loop-one.one-index c.args.incoming.now c.loop-one-test.false)

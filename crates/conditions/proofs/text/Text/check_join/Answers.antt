@@ -1,7 +1,7 @@
-use Rattle.std.proofs.Common.{◌≡◌, Ok, Err, Result, ap, ◌∙◌}
+use Rattle.std.proofs.Common.{Err, ap, ◌∙◌}
 use mathlib.Core.Path.{subst⁻¹}
 use Rattle.std.proofs.lemmas.Result.{err_from_is_err_and}
-use Rattle.grammar.specs.Grammar.{transition, join}
+use Rattle.grammar.specs.Grammar.{join}
 use Rattle.tokens.proofs.Laws.{tokens_of}
 use Rattle.conditions.specs.Texts.{text_bytes, Checked}
 use Rattle.conditions.specs.Values.{links_of}

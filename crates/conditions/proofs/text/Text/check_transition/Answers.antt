@@ -1,10 +1,9 @@
-use Rattle.std.proofs.Common.{◌≡◌, Ok, Err, Result, ap, ◌∙◌}
+use Rattle.std.proofs.Common.{Err, ap, ◌∙◌}
 use mathlib.Core.Path.{subst⁻¹}
 use Rattle.std.proofs.lemmas.Result.{err_from_is_err_and}
-use Rattle.grammar.specs.Grammar.{transition, join}
+use Rattle.grammar.specs.Grammar.{transition}
 use Rattle.tokens.proofs.Laws.{tokens_of}
 use Rattle.conditions.specs.Texts.{text_bytes, Checked}
-use Rattle.conditions.specs.Values.{links_of}
 use Rattle.conditions.proofs.Whole.{one_reading, one_verdict}
 use Rattle.conditions.proofs.text.Text.check_transition.Goals as goal
 
