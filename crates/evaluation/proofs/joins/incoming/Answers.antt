@@ -26,21 +26,21 @@ loop-k-preserved c =
     let room : n < length c.loop-k.places = omega (arith, so_far.0, so_far.1, here, few_links f) in
     elim c.if-links-k.branch [
       | then-links-k w ↦ (
-        omega (arith, so_far.0, w.n_is),
+        omega (arith, so_far.0, w.n-is),
         ap length w.places-is ∙ length-set c.loop-k.places n _ ∙ so_far.1,
-        (λ i. links_of (take (w.n_is i) (w.places-is i)) ++ into (k + 1) (drop (k + 1) ls) a)
+        (λ i. links_of (take (w.n-is i) (w.places-is i)) ++ into (k + 1) (drop (k + 1) ls) a)
             ∙ one_more c.loop-k.places n _ _ room
             ∙ ap (λ l. links_of (take n c.loop-k.places) ++ l) (sym (into_here ls k a here (sym target ∙ w.if-links-k.true)))
             ∙ so_far.2,
-        subst⁻¹ (HaveStatuses s) (λ i. take (w.n_is i) (w.places-is i)) (statuses_more s c.loop-k.places n _ room w.status.ensures so_far.3),
+        subst⁻¹ (HaveStatuses s) (λ i. take (w.n-is i) (w.places-is i)) (statuses_more s c.loop-k.places n _ room w.status.ensures so_far.3),
       )
       | else-links-k w ↦ (
-        omega (arith, so_far.0, w.n_is),
+        omega (arith, so_far.0, w.n-is),
         ap length w.places-is ∙ so_far.1,
-        (λ i. links_of (take (w.n_is i) (w.places-is i)) ++ into (k + 1) (drop (k + 1) ls) a)
+        (λ i. links_of (take (w.n-is i) (w.places-is i)) ++ into (k + 1) (drop (k + 1) ls) a)
             ∙ ap (λ l. links_of (take n c.loop-k.places) ++ l) (sym (into_past ls k a here (λ e. w.if-links-k.false (target ∙ e))))
             ∙ so_far.2,
-        subst⁻¹ (HaveStatuses s) (λ i. take (w.n_is i) (w.places-is i)) so_far.3,
+        subst⁻¹ (HaveStatuses s) (λ i. take (w.n-is i) (w.places-is i)) so_far.3,
       )
     ]
 

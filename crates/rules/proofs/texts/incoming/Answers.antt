@@ -14,17 +14,17 @@ loop-k-preserved c =
     let so_far = c.loop-k.invariant in
     elim c.if-links-k.branch [
       | then-links-k w ↦ (
-        omega (arith, so_far.0, w.n_is),
+        omega (arith, so_far.0, w.n-is),
         ap length w.places-is ∙ length-set c.loop-k.places c.loop-k.n _ ∙ so_far.1,
-        (λ i. links_of (take (w.n_is i) (w.places-is i)) ++ into (k + 1) (drop (k + 1) ls) a)
+        (λ i. links_of (take (w.n-is i) (w.places-is i)) ++ into (k + 1) (drop (k + 1) ls) a)
             ∙ one_more c.loop-k.places c.loop-k.n _ _ (omega (arith, so_far.0, so_far.1, c.requires.few, c.loop-k-test.true))
             ∙ ap (λ l. links_of (take c.loop-k.n c.loop-k.places) ++ l) (sym (into_here ls k a c.loop-k-test.true w.if-links-k.true))
             ∙ so_far.2,
       )
       | else-links-k w ↦ (
-        omega (arith, so_far.0, w.n_is),
+        omega (arith, so_far.0, w.n-is),
         ap length w.places-is ∙ so_far.1,
-        (λ i. links_of (take (w.n_is i) (w.places-is i)) ++ into (k + 1) (drop (k + 1) ls) a)
+        (λ i. links_of (take (w.n-is i) (w.places-is i)) ++ into (k + 1) (drop (k + 1) ls) a)
             ∙ ap (λ l. links_of (take c.loop-k.n c.loop-k.places) ++ l) (sym (into_past ls k a c.loop-k-test.true w.if-links-k.false))
             ∙ so_far.2,
       )
