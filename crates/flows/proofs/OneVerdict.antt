@@ -1,5 +1,5 @@
 -- No bytes have two verdicts.
-use Rattle.std.proofs.Common.{◌≡◌, ℕ, List, Ok, Err, Result, sym, ap, ◌∙◌, subst, arith}
+use Rattle.std.proofs.Common.{◌≡◌, ℕ, List, Err, Result, sym, ap, ◌∙◌, subst, arith}
 use Rattle.layout.specs.Layout.{Parts, WithinLimits, encode}
 use Rattle.layout.specs.Verdicts.{Refused}
 use Rattle.layout.specs.Verdicts as layout
@@ -11,7 +11,7 @@ use Rattle.rules.proofs.Turns.{one_rule}
 use Rattle.flows.specs.declared.refusal.DefinitionRefusal.{DefinitionRefusal}
 use Rattle.flows.specs.declared.refusal.DefinitionRefusal.TheVariants.{Layout, Rule}
 use Rattle.flows.specs.declared.flow.Flow.{Flow}
-use Rattle.flows.specs.Verdicts.{Verdict, accepted, refused, Judged, Defines, Breaks, OneVerdict}
+use Rattle.flows.specs.Verdicts.{accepted, refused, Judged, Defines, Breaks, OneVerdict}
 use Rattle.flows.specs.Flows.{ReadAsWritten}
 
 not_refused : (bs : List ℕ) (p : Parts) (e : LayoutRefusal) → WithinLimits p → bs ≡ encode p → Refused bs e → ⊥

@@ -1,5 +1,5 @@
 -- How many activities, links and texts a flow has at the most.
-use Rattle.std.proofs.Common.{◌≡◌, ℕ, ◌+◌, ◌≤◌, length, Some, None, Option, arith}
+use Rattle.std.proofs.Common.{◌≡◌, ◌+◌, ◌≤◌, length, Some, None, Option, arith}
 use Rattle.layout.specs.declared.draft.Draft.{Draft}
 use Rattle.layout.proofs.Elements as laid
 use Rattle.flows.specs.declared.flow.Flow.{Flow}

@@ -1,12 +1,12 @@
 -- From one check to the next.
-use Rattle.std.proofs.Common.{◌≡◌, ℕ, ◌+◌, ◌*◌, ◌<◌, ◌≤◌, cond, ◌⊎◌, List, [], length, get_or, sym, refl, ap, ◌∙◌, subst, inl, inr, ⊎_elim, arith}
+use Rattle.std.proofs.Common.{◌≡◌, ℕ, ◌+◌, ◌*◌, ◌≤◌, [], get_or, sym, refl, ap, ◌∙◌, subst, inl, inr, ⊎_elim, arith}
 use Rattle.std.proofs.lemmas.Bool.{cases_lt, cases_eq}
 use Rattle.conditions.specs.Texts.{FaultPlace}
 use Rattle.conditions.proofs.Whole.{one_verdict}
 use Rattle.layout.specs.Layout.{Parts}
 use Rattle.rules.specs.declared.refusal.RuleRefusal.{RuleRefusal}
 use Rattle.rules.specs.declared.refusal.RuleRefusal.TheVariants.{Flags, NoEnd, Twice, Cycle, BadConnector, NoPath, BadText}
-use Rattle.rules.specs.Rules.{Broken, kind_of_text, stage, turn, Before, Clear, FirstBroken, KeepsAll, OneRule}
+use Rattle.rules.specs.Rules.{Broken, kind_of_text, stage, turn, Clear, FirstBroken, OneRule}
 
 -- two refusals of one stage and turn are the same, where both rules are broken: a text has one fault
 even_odd : (i j : ℕ) → 2 * i ≡ 2 * j + 1 → ⊥

@@ -1,5 +1,5 @@
 -- The rules of a definition, in which order they are checked, and the first that is broken.
-use Rattle.std.specs.Prelude.{◌≡◌, ℕ, suc, ◌+◌, ◌-◌, ◌*◌, ◌<◌, ◌≤◌, cond, ◌⊎◌, List, [], ◌∷◌, length, Ok, Err, Result, ◌==◌, ◌≢◌, nat_lt, slice_index_or}
+use Rattle.std.specs.Prelude.{◌≡◌, ℕ, suc, ◌+◌, ◌-◌, ◌*◌, ◌<◌, cond, ◌⊎◌, List, [], ◌∷◌, length, Ok, Err, Result, ◌==◌, ◌≢◌, nat_lt, slice_index_or}
 use Rattle.parts.specs.declared.Activity.{Activity}
 use Rattle.parts.specs.declared.Link.{Link}
 use Rattle.parts.specs.declared.Connector.{Connector}

@@ -1,4 +1,4 @@
-use Rattle.std.proofs.Common.{◌≡◌, ℕ, ◌<◌, List, [], length, get_or, Ok, Err, Result, sym, subst, arith}
+use Rattle.std.proofs.Common.{◌≡◌, ℕ, ◌<◌, List, [], length, get_or, Ok, Err, Result, subst, arith}
 use mathlib.Core.Path.{subst⁻¹}
 use Rattle.conditions.specs.Texts.{text_bytes, Checked, FaultPlace}
 use Rattle.conditions.specs.declared.text.Text.{Text}

@@ -1,5 +1,4 @@
-use Rattle.std.proofs.Common.{◌≡◌, ℕ, ◌+◌, ◌<◌, ◌≤◌, List, [], ◌∷◌, ◌++◌, length, take, drop, set, sym, refl, ap, ◌∙◌, append-nil, arith, length-set}
-use Rattle.conditions.specs.declared.ground.Incoming.{Incoming}
+use Rattle.std.proofs.Common.{◌+◌, ◌++◌, length, take, drop, sym, ap, ◌∙◌, append-nil, arith, length-set}
 use Rattle.conditions.specs.Values.{links_of}
 use Rattle.rules.specs.Rules.{into}
 use Rattle.rules.proofs.Incoming.{into_here, into_past, into_end, one_more}

@@ -1,4 +1,4 @@
-use Rattle.std.proofs.Common.{ℕ, ◌+◌, [], length, ap, subst, arith}
+use Rattle.std.proofs.Common.{ℕ, ◌+◌, [], length, subst, arith}
 use Rattle.std.proofs.lemmas.List.{length-drop}
 use Rattle.conditions.specs.Texts.{text_bytes}
 use Rattle.layout.specs.Drafts.{ElementAt}
