@@ -1,5 +1,6 @@
 //! `jirvelko case`: the eight fields of a case, or its refusal.
 
+use anyhow::anyhow;
 use std::{fs, io};
 use values::case::read_case;
 
@@ -29,8 +30,7 @@ pub fn show_files(rt: &HostRuntime, files: &[String]) -> anyhow::Result<()> {
                 show(rt, &bytes)?;
             }
             Err(error) => {
-                let message = format!(in rt.alloc(); "cannot read {file}: {error}")?;
-                return Err(message.into());
+                return Err(anyhow!("cannot read {file}: {error}"));
             }
         }
     }

@@ -2,6 +2,7 @@
 
 #![tactic(auto)]
 
+use anyhow::anyhow;
 use std::alloc::Global;
 use std::{env, fs};
 
@@ -36,13 +37,13 @@ fn run(rt: &HostRuntime) -> anyhow::Result<()> {
 
 fn call(rt: &HostRuntime, words: &[String]) -> anyhow::Result<()> {
     let Some((command, rest)) = words.split_first() else {
-        return Err(USAGE.into());
+        return Err(anyhow!(USAGE));
     };
     match command.as_str() {
         "case" => cases::show_files(rt, rest),
         "weigh" => weighing::show(rt, rest),
         "samples" => show_samples(rt),
-        _ => Err(USAGE.into()),
+        _ => Err(anyhow!(USAGE)),
     }
 }
 

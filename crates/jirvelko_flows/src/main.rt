@@ -2,6 +2,7 @@
 
 #![tactic(auto)]
 
+use anyhow::anyhow;
 use std::alloc::Global;
 use std::{env, fs};
 
@@ -41,7 +42,7 @@ fn run(rt: &HostRuntime) -> anyhow::Result<()> {
 
 fn call(rt: &HostRuntime, words: &[String]) -> anyhow::Result<()> {
     let Some((command, rest)) = words.split_first() else {
-        return Err(USAGE.into());
+        return Err(anyhow!(USAGE));
     };
     match command.as_str() {
         "case" => cases::show_files(rt, rest),
@@ -50,7 +51,7 @@ fn call(rt: &HostRuntime, words: &[String]) -> anyhow::Result<()> {
         "ask" => asking::show(rt, rest),
         "evaluate" => evaluating::show(rt, rest),
         "samples" => show_samples(rt),
-        _ => Err(USAGE.into()),
+        _ => Err(anyhow!(USAGE)),
     }
 }
 
