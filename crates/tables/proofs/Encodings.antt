@@ -1,16 +1,14 @@
 -- The widths of what a row is made of, and that no two rows have one encoding.
-use Rattle.std.proofs.Common.{◌≡◌, ℕ, ◌+◌, ◌*◌, ◌/◌, ◌%◌, ◌^◌, ◌<◌, ◌≤◌, List, [], ◌∷◌, ◌++◌, length, get_or, take, drop, replicate, ℤ, pos, ◌≤ℤ◌, sym, refl, ap, ◌∙◌, arith, length-append, length-drop, take-append-drop, w64, SFits}
+use Rattle.std.proofs.Common.{◌≡◌, ℕ, ◌*◌, ◌/◌, ◌%◌, ◌^◌, ◌<◌, ◌≤◌, List, [], ◌∷◌, ◌++◌, length, get_or, take, drop, replicate, ℤ, pos, ◌≤ℤ◌, sym, refl, ap, ◌∙◌, arith, length-append, length-drop, take-append-drop, w64, SFits}
 use mathlib.Core.HLevel.{is_prop→PathP}
 use native.Mathlib.Bridge.{le_prop}
 use native.Mathlib.Nat.{ℕ_set}
 use lib.Dec.{T_prop}
 use lib.Signed.{le_z, mag}
-use Rattle.std.specs.List.{flat_map}
 use Rattle.std.proofs.lemmas.List.{take_at, drop_at, take_all, drop-drop}
-use Rattle.values.specs.declared.field.Field.{Field}
 use Rattle.values.specs.declared.field.Field.TheVariants.{Blank, Number}
 use Rattle.values.specs.declared.field.FieldNumber.{FieldNumber}
-use Rattle.values.specs.Layout.{signed_bytes, tagged, field_bytes}
+use Rattle.values.specs.Layout.{signed_bytes, tagged}
 use Rattle.values.specs.Same.{same_number}
 use Rattle.values.proofs.Encodings.{signed_same, same_field, wide_field}
 use Rattle.values.proofs.Records.{length_joined, same_from_joined}
@@ -27,7 +25,7 @@ use Rattle.tables.specs.declared.outcome.Outcome.{Outcome}
 use Rattle.tables.specs.declared.outcome.Outcome.TheVariants.{Fault, Output}
 use Rattle.tables.specs.declared.row.Row.{Row}
 use Rattle.tables.proofs.Pieces.{two_and_rest}
-use Rattle.tables.specs.Layout.{two_bytes, source_bytes, outputs_bytes, span_bytes, fit_bytes, outcome_bytes, row_bytes}
+use Rattle.tables.specs.Layout.{two_bytes, source_bytes, outputs_bytes, fit_bytes, outcome_bytes, row_bytes}
 
 pub wide_source : (s : Source) → length (source_bytes s) ≡ 9
 wide_source (Given f) = wide_field f

@@ -1,5 +1,5 @@
 -- The first row that fits, in words and computed.
-use Rattle.std.proofs.Common.{◌≡◌, ℕ, Bool, true, false, cond, not, ◌&&◌, eqb, List, [], ◌∷◌, ◌++◌, ℤ, ◌≤ℤ◌, Some, None, Decides, Option, sym, refl, ap, ◌∙◌, subst, ⊎_elim, arith}
+use Rattle.std.proofs.Common.{◌≡◌, ℕ, false, not, List, [], ◌∷◌, ◌++◌, ℤ, ◌≤ℤ◌, Some, None, Decides, Option, sym, refl, ap, ◌∙◌, ⊎_elim, arith}
 use lib.Signed.{lt_z}
 use Rattle.std.proofs.lemmas.Int.{ints}
 use Rattle.std.proofs.lemmas.Bool.{cases_Bool, cond-true, cond-false, cond_both, false≢true}
@@ -14,7 +14,7 @@ use Rattle.tables.specs.declared.fit.Fit.{Fit}
 use Rattle.tables.specs.declared.fit.Fit.TheVariants.{Always, Within}
 use Rattle.tables.specs.declared.row.Row.{Row}
 use Rattle.tables.specs.Answers.{Inside, inside, FitsInput, fits_input, Applies, applies}
-use Rattle.tables.specs.Tables.{NoneApplies, FirstFit, ByFirstFit, first_fitting, FirstFitComputed}
+use Rattle.tables.specs.Tables.{NoneApplies, ByFirstFit, first_fitting, FirstFitComputed}
 
 at_most_decides : (a b : ℤ) → Decides (not (lt_z b a)) (a ≤ℤ b)
 at_most_decides a b = grind (arith, ints)

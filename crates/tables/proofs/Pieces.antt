@@ -1,5 +1,5 @@
 -- Bytes and lists taken apart.
-use Rattle.std.proofs.Common.{◌≡◌, ℕ, zero, suc, ◌+◌, ◌*◌, ◌<◌, ◌≤◌, List, [], ◌∷◌, ◌++◌, length, get_or, take, drop, sym, refl, ap, ◌∙◌, mul-le-mul_left, mul-suc, arith}
+use Rattle.std.proofs.Common.{◌≡◌, ℕ, suc, ◌+◌, ◌*◌, ◌<◌, ◌≤◌, List, [], ◌∷◌, ◌++◌, length, get_or, take, drop, sym, refl, ap, mul-le-mul_left, mul-suc, arith}
 use Rattle.std.proofs.lemmas.List.{take_all}
 
 pub two_and_rest : (bs : List ℕ) (n : ℕ) → length bs ≡ n + 2 → bs ≡ (get_or bs 0 0 ∷ get_or bs 1 0 ∷ []) ++ take n (drop 2 bs)

@@ -10,7 +10,7 @@ use Rattle.tables.specs.declared.refusal.TableRefusal.{TableRefusal}
 use Rattle.tables.specs.declared.refusal.TableRefusal.TheVariants.{Size, BadRow}
 use Rattle.tables.specs.Layout.{two_bytes, row_bytes}
 use Rattle.tables.specs.Records.{FirstBad}
-use Rattle.tables.specs.Reading.{table_bytes, Sized, LowestBad, TableRefused, RowsRead, Encoded, Verdict, accepted, refused, Judged, OneVerdict, OneEncoding}
+use Rattle.tables.specs.Reading.{Sized, TableRefused, RowsRead, Encoded, accepted, refused, OneVerdict, OneEncoding}
 use Rattle.tables.proofs.Pieces.{two_and_rest, some}
 use Rattle.tables.proofs.Encodings.{wide_row, same_row, two_same, first_same, second_same}
 

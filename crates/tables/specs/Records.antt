@@ -1,5 +1,5 @@
 -- Reading what bytes encode.
-use Rattle.std.specs.Prelude.{◌≡◌, ℕ, ◌<◌, List, length, Some, None, Ok, Err, Option, Result, ◌≢◌, slice_index_or}
+use Rattle.std.specs.Prelude.{◌≡◌, ℕ, ◌<◌, List, Some, None, Ok, Err, Option, Result, ◌≢◌, slice_index_or}
 use Rattle.values.specs.Cases.{slot}
 
 -- what is read has these bytes; where nothing is read, nothing has them

@@ -1,7 +1,7 @@
 -- What a rule table answers: the first row of the operation that fits the input decides.
 use Rattle.std.specs.Prelude.{◌≡◌, ℕ, cond, List, [], ◌∷◌, ◌++◌, take, Some, None, Option}
 use Rattle.std.proofs.Common.{lit≤}
-use Rattle.std.specs.List.{AllByRecursion as All}
+use Rattle.std.specs.List.{AllByRecursion}
 use Rattle.values.specs.declared.container.Container.{Container}
 use Rattle.partners.specs.declared.fault.Fault.{Fault}
 use Rattle.partners.specs.Answers.{Answer, Answers, faults}
@@ -14,7 +14,7 @@ rows_of t = take t.count t.rows
 
 -- none of these rows is of the operation and fits the input
 abbrev pub NoneApplies : ℕ → Container → List Row → Type 0
-NoneApplies operation input rows = All (λ r. Applies operation input r → ⊥) rows
+NoneApplies operation input rows = AllByRecursion (λ r. Applies operation input r → ⊥) rows
 
 -- the row is of the operation and fits the input, and no row before it does
 pub record FirstFit (rows : List Row) (operation : ℕ) (input : Container) (row : Row) : Type 0 where

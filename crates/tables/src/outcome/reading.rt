@@ -1,6 +1,6 @@
 ghost use Rattle.std.specs.Prelude.{◌≡◌, ◌<◌, length, MatchOption};
-ghost use Rattle.partners.specs.Answers.{fault-code};
-ghost use Rattle.tables.specs.Layout.{outcome-bytes};
+ghost use Rattle.partners.specs.Answers.{fault_code};
+ghost use Rattle.tables.specs.Layout.{outcome_bytes};
 ghost use Rattle.tables.specs.Records.{Reads};
 
 use super::{Outcome, RowFault};
@@ -10,7 +10,7 @@ use partners::fault::Fault;
 
 impl RowFault {
     fn new(code: u16) -> Option<RowFault>
-        ensures { MatchOption result (code < 10) (λ f. fault-code f.fault ≡ code) }
+        ensures { MatchOption result (code < 10) (λ f. fault_code f.fault ≡ code) }
     {
         if code < 10 {
             return None;
@@ -30,7 +30,7 @@ impl Outcome {
     /// The outcome that has exactly these bytes.
     pub(crate) fn read(bytes: &[u8]) -> Option<Outcome>
         requires { length bytes.now ≡ 74 }
-        ensures { Reads outcome-bytes bytes.now result }
+        ensures { Reads outcome_bytes bytes.now result }
     {
         let code = number(bytes[0], bytes[1]);
         let outputs = &bytes[2..74];

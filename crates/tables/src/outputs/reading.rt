@@ -1,9 +1,9 @@
 ghost use Rattle.std.specs.Prelude.{◌≡◌, map, length, replicate};
 ghost use Rattle.values.specs.declared.field.Field.TheVariants.{Blank};
 ghost use Rattle.tables.specs.declared.source.Source.TheVariants.{Given};
-ghost use Rattle.tables.specs.Layout.{outputs-bytes};
+ghost use Rattle.tables.specs.Layout.{outputs_bytes};
 ghost use Rattle.tables.specs.Records.{Reads};
-ghost use Rattle.tables.specs.Answers.{chosen, output-over};
+ghost use Rattle.tables.specs.Answers.{chosen, output_over};
 
 use super::Outputs;
 use crate::records::fill;
@@ -24,7 +24,7 @@ impl Outputs {
     /// The outputs that have exactly these bytes.
     pub(crate) fn read(bytes: &[u8]) -> Option<Outputs>
         requires { length bytes.now ≡ 72 }
-        ensures { Reads outputs-bytes bytes.now result }
+        ensures { Reads outputs_bytes bytes.now result }
     {
         let mut sources = [Source::Given(Field::Blank); 8];
         match fill(bytes, 9, &mut sources, 8) {
@@ -35,7 +35,7 @@ impl Outputs {
 
     /// The output that they make over this input.
     pub fn over(&self, input: &Container) -> Container
-        ensures { result ≡ output-over input.now self.now }
+        ensures { result ≡ output_over input.now self.now }
     {
         let [a, b, c, d, e, f, g, h] = self.sources;
         Container::new([

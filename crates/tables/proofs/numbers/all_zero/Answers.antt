@@ -1,4 +1,4 @@
-use Rattle.std.proofs.Common.{◌≡◌, ℕ, ◌<◌, length, get_or, replicate, sym, refl, ap, ◌∙◌, arith, below_more}
+use Rattle.std.proofs.Common.{length, get_or, replicate, sym, refl, ap, ◌∙◌, arith, below_more}
 use Rattle.std.proofs.lemmas.List.{get_or-replicate, length-replicate, ext_get_or}
 use Rattle.std.proofs.lemmas.Bool.{false≢true}
 use Rattle.tables.proofs.numbers.all_zero.Goals as goal

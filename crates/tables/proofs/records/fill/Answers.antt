@@ -1,4 +1,4 @@
-use Rattle.std.proofs.Common.{◌≡◌, ℕ, ◌+◌, ◌-◌, ◌*◌, ◌<◌, ◌≤◌, ◌≢◌, List, length, get_or, take, drop, set, sym, refl, ap, ◌∙◌, arith, get_or-set_other, get_or-set_same, rules, below_more}
+use Rattle.std.proofs.Common.{◌≡◌, ℕ, ◌+◌, ◌*◌, ◌≤◌, ◌≢◌, List, length, get_or, take, drop, set, sym, ap, ◌∙◌, arith, get_or-set_other, get_or-set_same, rules, below_more}
 use Rattle.std.specs.List.{between}
 use Rattle.values.specs.Cases.{slot}
 use Rattle.tables.proofs.Pieces.{within, some}

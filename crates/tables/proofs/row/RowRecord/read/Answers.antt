@@ -1,4 +1,4 @@
-use Rattle.std.proofs.Common.{◌≡◌, length, sym, refl, ap, ◌∙◌}
+use Rattle.std.proofs.Common.{length, ap, ◌∙◌}
 use Rattle.tables.proofs.Encodings.{wide_row, row_from_pieces, outcome_piece}
 use Rattle.tables.proofs.row.RowRecord.read.Goals as goal
 
