@@ -3,7 +3,7 @@ use Rattle.std.proofs.Common.{◌≡◌, ℕ, suc, Bool, true, false, cond, List
 use mathlib.Core.Path.{subst⁻¹}
 use Rattle.values.specs.declared.amount.Comparison.{Comparison}
 use Rattle.grammar.specs.Symbols.{Operand, Symbol, or_word, and_word, not_word, truth_word, opening, closing, operand, sign, link_word, bad}
-use Rattle.grammar.specs.Grammar.{Kind, transition, join, member, compares, status, Tree, constant, test, negation, conjunction, disjunction, condition, term, factor, Reads, one_term, or_term, one_factor, and_factor, of_not, of_parentheses, of_truth, of_comparison, of_link}
+use Rattle.grammar.specs.Grammar.{Kind, transition, join, member, compares, status, Tree, test, negation, conjunction, disjunction, condition, term, factor, Reads, one_term, or_term, one_factor, and_factor, of_not, of_parentheses, of_truth, of_comparison, of_link}
 use Rattle.readings.specs.Stages.{Frame, Stage, factor_wanted, sign_wanted, operand_wanted, factor_ended, failed, new_term, joined, negations, with_factor, closed, first_operand, link_status, at_factor, at_sign, at_operand, at_end, next, read_on, condition_of}
 use Rattle.readings.specs.Readings.{read_symbols}
 use Rattle.readings.specs.Theorems.{WorkedOutReads}

@@ -1,6 +1,6 @@
 -- What a condition text comes to, worked out.
 use Rattle.std.specs.Prelude.{ℕ, Bool, false, List, [], Some, None, Option}
-use Rattle.grammar.specs.Symbols.{Operand, Symbol}
+use Rattle.grammar.specs.Symbols.{Symbol}
 use Rattle.grammar.specs.Grammar.{Kind, Test, compares, status, Tree}
 use Rattle.grammar.specs.Faults.{symbols}
 use Rattle.tokens.specs.Following.{symbols_of}
