@@ -1,6 +1,6 @@
 -- The plan of a flow, and the valuation that a list of outcomes is.
 use Rattle.std.specs.Prelude.{◌≡◌, ℕ, ◌<◌, ◌≤◌, Bool, List, Some, None, Option, slice_index_or}
-use Rattle.std.specs.List.{AllByRecursion as All}
+use Rattle.std.specs.List.{AllByRecursion}
 use Rattle.conditions.specs.declared.ground.Incoming.{Incoming}
 use Rattle.flows.specs.declared.flow.Flow.{Flow}
 use Rattle.flows.specs.Flows.{flow_parts}
@@ -19,7 +19,7 @@ valuation_of outcomes a = slice_index_or outcomes a Skipped
 
 -- each link has the status that s gives it
 abbrev pub HaveStatuses : (ℕ → Bool) → List Incoming → Type 0
-HaveStatuses s links = All (λ l. l.status ≡ s l.link) links
+HaveStatuses s links = AllByRecursion (λ l. l.status ≡ s l.link) links
 
 -- this outcome, and the busy number has not grown; or busy, and it has fallen
 abbrev pub RuledOrBusy : Outcome → ℕ → ℕ → Option Outcome → Type 0

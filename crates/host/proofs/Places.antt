@@ -1,6 +1,6 @@
 -- Causes and places are small numbers.
 use Rattle.std.proofs.Common.{◌≡◌, ℕ, zero, suc, ◌+◌, ◌*◌, ◌^◌, ◌<◌, ◌≤◌, List, [], ◌∷◌, ◌++◌, length, get_or, take, sym, refl, ap, ◌∙◌, mul-le-mul_right, suc-mul, arith}
-use Rattle.std.specs.List.{flat_map, AllByRecursion as All}
+use Rattle.std.specs.List.{flat_map, AllByRecursion}
 use Rattle.std.proofs.lemmas.List.{length-append, length-take-le}
 use Rattle.conditions.proofs.Within.{fault_within}
 use Rattle.layout.specs.declared.refusal.LayoutRefusal.{LayoutRefusal}
@@ -18,20 +18,20 @@ use Rattle.flows.specs.Refusals.{cause_of, place_of}
 use Rattle.flows.specs.Verdicts.{refused, Judged}
 
 -- elements of at most so many bytes each
-few_bytes : {X : Type 0} (items : X → List Item) (width : ℕ) (xs : List X) → All (λ x. length (bytes_of (items x)) ≤ width) xs → length (bytes_of (flat_map items xs)) ≤ length xs * width
+few_bytes : {X : Type 0} (items : X → List Item) (width : ℕ) (xs : List X) → AllByRecursion (λ x. length (bytes_of (items x)) ≤ width) xs → length (bytes_of (flat_map items xs)) ≤ length xs * width
 few_bytes items width [] a = omega arith
 few_bytes items width (x ∷ xs) a =
     omega (arith, ap length (bytes_append (items x) (flat_map items xs)), length-append (bytes_of (items x)) (bytes_of (flat_map items xs)), few_bytes items width xs a.1, suc-mul (length xs) width, a.0)
 
-all_of : {X : Type 0} (P : X → Type 0) → ((x : X) → P x) → (xs : List X) → All P xs
+all_of : {X : Type 0} (P : X → Type 0) → ((x : X) → P x) → (xs : List X) → AllByRecursion P xs
 all_of P h [] = tt
 all_of P h (x ∷ xs) = (h x, all_of P h xs)
 
-texts_few : (ts : List (List ℕ)) → All GoodText ts → All (λ t. length (bytes_of (text_items t)) ≤ 61) ts
+texts_few : (ts : List (List ℕ)) → AllByRecursion GoodText ts → AllByRecursion (λ t. length (bytes_of (text_items t)) ≤ 61) ts
 texts_few [] a = tt
 texts_few (t ∷ ts) a = (omega (arith, length-append t [], a.0.1), texts_few ts a.1)
 
-section_few : {X : Type 0} (items : X → List Item) (width most : ℕ) (xs : List X) (after : List Item) → All (λ x. length (bytes_of (items x)) ≤ width) xs → length xs ≤ most → length (bytes_of (section_items items xs after)) ≤ 2 + most * width + length (bytes_of after)
+section_few : {X : Type 0} (items : X → List Item) (width most : ℕ) (xs : List X) (after : List Item) → AllByRecursion (λ x. length (bytes_of (items x)) ≤ width) xs → length xs ≤ most → length (bytes_of (section_items items xs after)) ≤ 2 + most * width + length (bytes_of after)
 section_few items width most xs after a h =
     omega (arith, ap length (bytes_append (flat_map items xs) after), length-append (bytes_of (flat_map items xs)) (bytes_of after), few_bytes items width xs a, mul-le-mul_right width h)
 
@@ -58,7 +58,7 @@ layout_place bs (Count at) r = next_within bs at _ r.next
 layout_place bs (TextLength at) r = next_within bs at _ r.next
 layout_place bs (Extra at) r = omega (arith, ap length r.encode_is, length-take-le at bs (omega (arith, r.more)), encode_few r.parts r.limits.counts)
 
-text_within : (ts : List (List ℕ)) (i : ℕ) → All GoodText ts → length (get_or ts i []) ≤ 60
+text_within : (ts : List (List ℕ)) (i : ℕ) → AllByRecursion GoodText ts → length (get_or ts i []) ≤ 60
 text_within [] i a = omega arith
 text_within (t ∷ ts) zero a = a.0.1
 text_within (t ∷ ts) (suc i) a = text_within ts i a.1

@@ -1,6 +1,6 @@
 -- What two encodings that begin alike have in common.
 use Rattle.std.proofs.Common.{◌≡◌, ℕ, ◌*◌, ◌/◌, ◌%◌, List, [], ◌∷◌, ◌++◌, length, get_or, take, drop, sym, refl, ap, ◌∙◌, suc-mul, arith}
-use Rattle.std.specs.List.{flat_map, AllByRecursion as All}
+use Rattle.std.specs.List.{flat_map, AllByRecursion}
 use Rattle.std.proofs.lemmas.List.{take_at, drop_at, append_assoc, length-append}
 use Rattle.layout.specs.Layout.{two_bytes, Item, a_count, bytes_of, section_items, record_items, text_items, GoodLength, GoodText}
 use Rattle.layout.proofs.Taking.{bytes_append}
@@ -39,7 +39,7 @@ section_same f width even xs ys after more e =
     (both.0, (split_same (bytes_of (flat_map (record_items f) xs)) (bytes_of (flat_map (record_items f) ys)) (bytes_of after) more long (sym (bytes_append (flat_map (record_items f) xs) after) ∙ both.1)).1)
 
 -- the length of a text that comes next
-pub length_good : (ts us : List (List ℕ)) (n : ℕ) (more : List ℕ) → All GoodText ts → bytes_of (flat_map text_items ts) ≡ bytes_of (flat_map text_items us) ++ n ∷ more → GoodLength n
+pub length_good : (ts us : List (List ℕ)) (n : ℕ) (more : List ℕ) → AllByRecursion GoodText ts → bytes_of (flat_map text_items ts) ≡ bytes_of (flat_map text_items us) ++ n ∷ more → GoodLength n
 length_good [] [] n more a e = absurd (omega (arith, ap length e))
 length_good (t ∷ ts) [] n more a e = let h : length t ≡ n = ap (λ l. get_or l 0 0) e in (omega (arith, a.0.0), omega (arith, a.0.1))
 length_good [] (u ∷ us) n more a e = absurd (omega (arith, ap length e))

@@ -1,6 +1,6 @@
 -- A section: how what is read so far can go on within the limits, and what it is refused for where it stops.
 use Rattle.std.proofs.Common.{◌≡◌, ℕ, zero, suc, ◌+◌, ◌-◌, ◌<◌, ◌≤◌, List, [], ◌∷◌, ◌++◌, length, take, replicate, sym, ap, ◌∙◌, subst, arith}
-use Rattle.std.specs.List.{flat_map, AllByRecursion as All}
+use Rattle.std.specs.List.{flat_map, AllByRecursion}
 use Rattle.std.proofs.lemmas.List.{append_assoc, length-append, length-replicate}
 use Rattle.std.proofs.ByRecursion.{All-append, All-take}
 use Rattle.layout.specs.declared.refusal.LayoutRefusal.{LayoutRefusal}
@@ -16,17 +16,17 @@ pub record Goes (before next : List Item) : Type 0 where
   pub counts : Counts parts
   pub rest : List Item
   pub items_are : items_of parts ≡ before ++ (next ++ rest)
-  pub rest_bytes : All Byte (bytes_of rest)
+  pub rest_bytes : AllByRecursion Byte (bytes_of rest)
 
-bytes_both : (is js : List Item) → All Byte (bytes_of is) → All Byte (bytes_of js) → All Byte (bytes_of (is ++ js))
+bytes_both : (is js : List Item) → AllByRecursion Byte (bytes_of is) → AllByRecursion Byte (bytes_of js) → AllByRecursion Byte (bytes_of (is ++ js))
 bytes_both is js p q = rw (bytes_append is js) (All-append Byte (bytes_of is) (bytes_of js) p q)
 
-goes_next : {bs : List ℕ} {at : ℕ} {before : List Item} {item : Item} {next : List Item} → Goes before (item ∷ next) → All Byte (bytes_of (item ∷ next)) → All Byte bs → Took bs 0 at (bytes_of before) → Next bs at item
+goes_next : {bs : List ℕ} {at : ℕ} {before : List Item} {item : Item} {next : List Item} → Goes before (item ∷ next) → AllByRecursion Byte (bytes_of (item ∷ next)) → AllByRecursion Byte bs → Took bs 0 at (bytes_of before) → Next bs at item
 goes_next {bs} {at} {before} {item} {next} g b all t = record {
   parts = g.parts;
   limits = record {
     counts = g.counts;
-    in_bytes = subst (All Byte) (sym (ap bytes_of g.items_are)) (bytes_both before ((item ∷ next) ++ g.rest) (subst (All Byte) (took_front t) (All-take Byte at bs all)) (bytes_both (item ∷ next) g.rest b g.rest_bytes));
+    in_bytes = subst (AllByRecursion Byte) (sym (ap bytes_of g.items_are)) (bytes_both before ((item ∷ next) ++ g.rest) (subst (AllByRecursion Byte) (took_front t) (All-take Byte at bs all)) (bytes_both (item ∷ next) g.rest b g.rest_bytes));
   };
   before = before;
   after = next ++ g.rest;
@@ -48,13 +48,13 @@ goes_on before item next g = record {
 pub record Section {X : Type 0} (items : X → List Item) (good : X → Type 0) (before : List Item) (least greatest : ℕ) : Type 0 where
   pub blank : X
   pub blank_good : good blank
-  pub blank_bytes : All Byte (bytes_of (items blank))
+  pub blank_bytes : AllByRecursion Byte (bytes_of (items blank))
   pub some : least ≤ greatest
   pub few : greatest ≤ 256
   pub parts : List X → Parts
-  pub counts : (xs : List X) → Between least greatest (length xs) → All good xs → Counts (parts xs)
+  pub counts : (xs : List X) → Between least greatest (length xs) → AllByRecursion good xs → Counts (parts xs)
   pub after : ℕ → List Item
-  pub after_bytes : (n : ℕ) → n ≤ greatest → All Byte (bytes_of (after n))
+  pub after_bytes : (n : ℕ) → n ≤ greatest → AllByRecursion Byte (bytes_of (after n))
   pub items_are : (xs : List X) → items_of (parts xs) ≡ before ++ section_items items xs (after (length xs))
   pub count_kept : (p : Parts) → Counts p → (n : ℕ) (more : List ℕ) → encode p ≡ bytes_of before ++ (two_bytes n ++ more) → Between least greatest n
 
@@ -69,12 +69,12 @@ module _ {X : Type 0} {items : X → List Item} {good : X → Type 0} {before : 
   blanks : ℕ → List X
   blanks n = replicate n s.blank
 
-  blanks_good : (n : ℕ) → All good (blanks n)
+  blanks_good : (n : ℕ) → AllByRecursion good (blanks n)
   unfolding blanks
   blanks_good zero = tt
   blanks_good (suc n) = (s.blank_good, blanks_good n)
 
-  blanks_bytes : (n : ℕ) → All Byte (bytes_of (flat_map items (blanks n)))
+  blanks_bytes : (n : ℕ) → AllByRecursion Byte (bytes_of (flat_map items (blanks n)))
   unfolding blanks
   blanks_bytes zero = tt
   blanks_bytes (suc n) = bytes_both (items s.blank) (flat_map items (blanks n)) s.blank_bytes (blanks_bytes n)
@@ -94,10 +94,10 @@ module _ {X : Type 0} {items : X → List Item} {good : X → Type 0} {before : 
         rest_bytes = bytes_both (flat_map items (blanks least)) (s.after (length (blanks least))) (blanks_bytes least) (s.after_bytes (length (blanks least)) (omega (arith, s.some)));
       }
 
-  count_bytes : All Byte (bytes_of (a_count (length (blanks least)) ∷ []))
+  count_bytes : AllByRecursion Byte (bytes_of (a_count (length (blanks least)) ∷ []))
   count_bytes = let long = blanks_long least in (omega (arith, s.some, s.few), (omega (arith, s.some, s.few), tt))
 
-  goes_element : (n : ℕ) (xs : List X) (x : X) → Between least greatest n → length xs < n → All good xs → good x → Goes (before ++ head items n xs) (items x)
+  goes_element : (n : ℕ) (xs : List X) (x : X) → Between least greatest n → length xs < n → AllByRecursion good xs → good x → Goes (before ++ head items n xs) (items x)
   goes_element n xs x limits fewer fine g =
       let more = blanks (n - length xs - 1) in
       let all = xs ++ x ∷ more in
@@ -110,7 +110,7 @@ module _ {X : Type 0} {items : X → List Item} {good : X → Type 0} {before : 
         rest_bytes = bytes_both (flat_map items more) (s.after n) (blanks_bytes (n - length xs - 1)) (s.after_bytes n limits.1);
       }
 
-  module _ {bs : List ℕ} (all_bytes : All Byte bs) {at : ℕ} (front : Took bs 0 at (bytes_of before)) where
+  module _ {bs : List ℕ} (all_bytes : AllByRecursion Byte bs) {at : ℕ} (front : Took bs 0 at (bytes_of before)) where
     count_refused : {e : LayoutRefusal} → CountStops bs at least greatest e → Refused bs e
     count_refused (no_count h) = subst (Refused bs) (sym h.0) (record { item = _; next = goes_next goes_count count_bytes all_bytes front; ends = h.1 })
     count_refused (bad_count e n took outside) =
@@ -127,7 +127,7 @@ module _ {X : Type 0} {items : X → List Item} {good : X → Type 0} {before : 
     section_refused stops at-elements (at_element n there count_is h) = at-elements n there count_is h
 
 -- a section of records
-pub records_refused : {X : Type 0} (f : X → List ℕ) {before : List Item} {least greatest : ℕ} (s : Section (record_items f) Any before least greatest) {bs : List ℕ} → All Byte bs → {at : ℕ} → Took bs 0 at (bytes_of before) → {e : LayoutRefusal} → SectionStops (record_items f) Any (CutAt (length (f s.blank))) bs at least greatest e → Refused bs e
+pub records_refused : {X : Type 0} (f : X → List ℕ) {before : List Item} {least greatest : ℕ} (s : Section (record_items f) Any before least greatest) {bs : List ℕ} → AllByRecursion Byte bs → {at : ℕ} → Took bs 0 at (bytes_of before) → {e : LayoutRefusal} → SectionStops (record_items f) Any (CutAt (length (f s.blank))) bs at least greatest e → Refused bs e
 records_refused f {before} s {bs} all_bytes front =
     section_refused s all_bytes front (CutAt (length (f s.blank)))
     (λ n there count_is h.
@@ -138,16 +138,16 @@ records_refused f {before} s {bs} all_bytes front =
 abbrev pub spaces : ℕ → List ℕ
 spaces n = replicate n 32
 
-pub spaces_bytes : (n : ℕ) → All Byte (spaces n)
+pub spaces_bytes : (n : ℕ) → AllByRecursion Byte (spaces n)
 spaces_bytes zero = tt
 spaces_bytes (suc n) = (omega arith, spaces_bytes n)
 
-pub text_bytes_good : (n : ℕ) → n ≤ 255 → All Byte (bytes_of (text_items (spaces n)))
+pub text_bytes_good : (n : ℕ) → n ≤ 255 → AllByRecursion Byte (bytes_of (text_items (spaces n)))
 text_bytes_good n h = let long : length (spaces n) ≡ n = length-replicate n 32 in (omega arith, bytes_both (a_text (spaces n) ∷ []) [] (All-append Byte (spaces n) [] (spaces_bytes n) tt) tt)
 
 -- a section of texts; what a layout with these bytes has after its count are its texts
-module _ {before : List Item} {least greatest : ℕ} (s : Section text_items GoodText before least greatest) (texts_kept : (p : Parts) → Counts p → (n : ℕ) (more : List ℕ) → encode p ≡ bytes_of before ++ (two_bytes n ++ more) → bytes_of (flat_map text_items p.texts) ≡ more) {bs : List ℕ} (all_bytes : All Byte bs) {at : ℕ} (front : Took bs 0 at (bytes_of before)) where
-  text_refused : (n there : ℕ) → CountIs bs at there least greatest n → {e : LayoutRefusal} (ts : List (List ℕ)) → length ts < n → All GoodText ts → {to : ℕ} → Took bs there to (bytes_of (flat_map text_items ts)) → TextStops bs to e → Refused bs e
+module _ {before : List Item} {least greatest : ℕ} (s : Section text_items GoodText before least greatest) (texts_kept : (p : Parts) → Counts p → (n : ℕ) (more : List ℕ) → encode p ≡ bytes_of before ++ (two_bytes n ++ more) → bytes_of (flat_map text_items p.texts) ≡ more) {bs : List ℕ} (all_bytes : AllByRecursion Byte bs) {at : ℕ} (front : Took bs 0 at (bytes_of before)) where
+  text_refused : (n there : ℕ) → CountIs bs at there least greatest n → {e : LayoutRefusal} (ts : List (List ℕ)) → length ts < n → AllByRecursion GoodText ts → {to : ℕ} → Took bs there to (bytes_of (flat_map text_items ts)) → TextStops bs to e → Refused bs e
   text_refused n there count_is ts fewer fine took (no_length h) =
       let goes = goes_element s n ts s.blank count_is.1 fewer fine s.blank_good in
       subst (Refused bs) (sym h.0) (record { item = _; next = goes_next goes s.blank_bytes all_bytes (front_more text_items before ts front count_is took); ends = h.1 })

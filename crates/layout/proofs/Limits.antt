@@ -1,6 +1,6 @@
 -- The four sections of a layout, one after the other.
 use Rattle.std.proofs.Common.{◌≡◌, ℕ, zero, suc, ◌+◌, ◌≤◌, List, [], ◌++◌, length, replicate, sym, refl, ap, ◌∙◌, arith}
-use Rattle.std.specs.List.{flat_map, AllByRecursion as All}
+use Rattle.std.specs.List.{flat_map, AllByRecursion}
 use Rattle.std.proofs.lemmas.List.{append_assoc, append-nil, length-replicate}
 use Rattle.std.proofs.ByRecursion.{All-append}
 use Rattle.parts.specs.declared.Activity.{Activity}
@@ -64,14 +64,14 @@ module _ (p : Parts) (acts : List Activity) where
 abbrev blank_texts : ℕ → List (List ℕ)
 blank_texts n = replicate n (spaces least_text_length)
 
-blank_texts_good : (n : ℕ) → All GoodText (blank_texts n)
+blank_texts_good : (n : ℕ) → AllByRecursion GoodText (blank_texts n)
 blank_texts_good zero = tt
 blank_texts_good (suc n) = ((omega arith, omega arith), blank_texts_good n)
 
-blank_texts_bytes : (n : ℕ) → n ≤ 256 → All Byte (bytes_of (section_items text_items (blank_texts n) []))
+blank_texts_bytes : (n : ℕ) → n ≤ 256 → AllByRecursion Byte (bytes_of (section_items text_items (blank_texts n) []))
 blank_texts_bytes n h = let long = length-replicate n (spaces least_text_length) in (omega arith, (omega arith, each n))
   where
-    each : (k : ℕ) → All Byte (bytes_of (flat_map text_items (blank_texts k) ++ []))
+    each : (k : ℕ) → AllByRecursion Byte (bytes_of (flat_map text_items (blank_texts k) ++ []))
     each zero = tt
     each (suc k) = (omega arith, All-append Byte (spaces least_text_length) _ (spaces_bytes least_text_length) (each k))
 
@@ -81,7 +81,7 @@ pub record Few (acts : List Activity) (ls : List Link) (cs : List Connector) : T
   pub few_links : length ls ≤ 128
   pub few_connectors : length cs ≤ 256
 
-pub counts_from : {acts : List Activity} {ls : List Link} {cs : List Connector} → Few acts ls cs → (ts : List (List ℕ)) → length ts ≡ length ls + length acts → All GoodText ts → Counts (record { activities = acts; links = ls; connectors = cs; texts = ts })
+pub counts_from : {acts : List Activity} {ls : List Link} {cs : List Connector} → Few acts ls cs → (ts : List (List ℕ)) → length ts ≡ length ls + length acts → AllByRecursion GoodText ts → Counts (record { activities = acts; links = ls; connectors = cs; texts = ts })
 counts_from h ts long good = record { some_activities = h.some_activities; few_activities = h.few_activities; few_links = h.few_links; few_connectors = h.few_connectors; as_many_texts = long; good_texts = good }
 
 counts_blank : {acts : List Activity} {ls : List Link} {cs : List Connector} → Few acts ls cs → Counts (record { activities = acts; links = ls; connectors = cs; texts = blank_texts (length ls + length acts) })

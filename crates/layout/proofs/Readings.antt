@@ -1,6 +1,6 @@
 -- Each exit of reading a draft, as the verdict on the bytes.
 use Rattle.std.proofs.Common.{◌≡◌, ℕ, ◌+◌, ◌≤◌, List, [], ◌∷◌, ◌++◌, map, length, get_or, take, Ok, Err, Result, sym, ap, ◌∙◌, subst, arith, w8, Fits}
-use Rattle.std.specs.List.{flat_map, AllByRecursion as All}
+use Rattle.std.specs.List.{flat_map, AllByRecursion}
 use Rattle.std.proofs.lemmas.List.{append-nil, length-map, drop_all}
 use Rattle.std.proofs.ByRecursion.{All-map, All-take, All-from_get_or}
 use Rattle.parts.specs.declared.Activity.{Activity}
@@ -20,7 +20,7 @@ use Rattle.layout.proofs.Goings.{front_more, records_refused, texts_refused}
 use Rattle.layout.proofs.Limits.{activity_items, link_items, connector_items, one_section, two_sections, three_sections, four_sections, Few, counts_from, activities_section, links_section, connectors_section, texts_section, texts_kept}
 use Rattle.layout.proofs.OneVerdict.{one_verdict}
 
-pub bytes_from : (bs : List ℕ) → ((i : ℕ) → Fits w8 (get_or bs i 0)) → All Byte bs
+pub bytes_from : (bs : List ℕ) → ((i : ℕ) → Fits w8 (get_or bs i 0)) → AllByRecursion Byte bs
 bytes_from bs h = All-from_get_or Byte bs 0 (λ i l. let f = h i in omega arith)
 
 -- a section that is read whole
@@ -52,7 +52,7 @@ pub record Whole (bs b : List ℕ) (at : ℕ) (p : Parts) : Type 0 where
   pub limits : WithinLimits p
   pub took : Took bs 0 at (encode p)
 
-module _ (bs : List ℕ) (all_bytes : All Byte bs) where
+module _ (bs : List ℕ) (all_bytes : AllByRecursion Byte bs) where
   pub stop_activities : {b : List ℕ} {at : ℕ} → b ≡ bs → at ≡ 0 → {e : LayoutRefusal} → SectionStops activity_items Any (CutAt 4) b at 1 32 e → Refused bs e
   stop_activities same z h = records_refused _ activities_section all_bytes (took_none bs 0 (omega arith)) (rw (same, z) at h)
 
@@ -103,7 +103,7 @@ module _ (bs : List ℕ) (all_bytes : All Byte bs) where
             same = kept ∙ f.same;
             limits = record {
               counts = counts_from f.few ts (long ∙ count_is) (All-map GoodText text_bytes (take count xs) s.filled.fine);
-              in_bytes = subst (All Byte) (took_front all) (All-take Byte to bs all_bytes);
+              in_bytes = subst (AllByRecursion Byte) (took_front all) (All-take Byte to bs all_bytes);
             };
             took = all;
           }

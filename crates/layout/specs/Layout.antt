@@ -1,6 +1,6 @@
 -- The layout of a definition: its parts, the items that it is written as, and the bytes of these.
 use Rattle.std.specs.Prelude.{◌≡◌, ℕ, ◌+◌, ◌/◌, ◌%◌, ◌<◌, ◌≤◌, List, [], ◌∷◌, ◌++◌, length}
-use Rattle.std.specs.List.{flat_map, AllByRecursion as All}
+use Rattle.std.specs.List.{flat_map, AllByRecursion}
 use Rattle.parts.specs.declared.Activity.{Activity}
 use Rattle.parts.specs.declared.Link.{Link}
 use Rattle.parts.specs.declared.Connector.{Connector}
@@ -85,9 +85,9 @@ pub record Counts (p : Parts) : Type 0 where
   pub few_links : length p.links ≤ 128
   pub few_connectors : length p.connectors ≤ 256
   pub as_many_texts : length p.texts ≡ length p.links + length p.activities
-  pub good_texts : All GoodText p.texts
+  pub good_texts : AllByRecursion GoodText p.texts
 
 -- and so is every number: each fits the bytes that it is written in
 pub record WithinLimits (p : Parts) : Type 0 where
   pub counts : Counts p
-  pub in_bytes : All Byte (encode p)
+  pub in_bytes : AllByRecursion Byte (encode p)

@@ -1,6 +1,6 @@
 -- What the steps of a reader do.
 use Rattle.std.specs.Prelude.{◌≡◌, ℕ, ◌+◌, ◌<◌, ◌≤◌, List, [], ◌∷◌, ◌++◌, length, take, drop}
-use Rattle.std.specs.List.{flat_map, AllByRecursion as All}
+use Rattle.std.specs.List.{flat_map, AllByRecursion}
 use Rattle.layout.specs.declared.refusal.LayoutRefusal.{LayoutRefusal}
 use Rattle.layout.specs.declared.refusal.LayoutRefusal.TheVariants.{Cut, Count, TextLength, Extra}
 use Rattle.layout.specs.Layout.{Item, two_bytes, bytes_of, GoodLength}
@@ -46,13 +46,13 @@ ElementIs items good bs at to x = Took bs at to (bytes_of (items x)) × good x
 pub record Filled {X : Type 0} (items : X → List Item) (good : X → Type 0) (bs : List ℕ) (at to n : ℕ) (xs : List X) : Type 0 where
   pub took : Took bs at to (bytes_of (flat_map items (take n xs)))
   pub long : length (take n xs) ≡ n
-  pub fine : All good (take n xs)
+  pub fine : AllByRecursion good (take n xs)
 
 -- some elements are read, fewer than n, and then it stops
 pub record Stopped {X : Type 0} (items : X → List Item) (good : X → Type 0) (stops : List ℕ → ℕ → LayoutRefusal → Type 0) (bs : List ℕ) (at n : ℕ) (e : LayoutRefusal) : Type 0 where
   pub elements : List X
   pub fewer : length elements < n
-  pub fine : All good elements
+  pub fine : AllByRecursion good elements
   pub there : ℕ
   pub took : Took bs at there (bytes_of (flat_map items elements))
   pub stop : stops bs there e

@@ -1,6 +1,6 @@
 -- A flow's plan looks only where it may, has ranks, and goes by the readings of the texts.
 use Rattle.std.proofs.Common.{◌≡◌, ℕ, ◌<◌, Bool, true, false, cond, ◌&&◌, eqb, ◌⊎◌, List, [], ◌∷◌, length, sym, refl, ap, ◌∙◌, subst, inl, inr, ⊎_elim, arith}
-use Rattle.std.specs.List.{AllByRecursion as All}
+use Rattle.std.specs.List.{AllByRecursion}
 use Rattle.std.proofs.ByRecursion.{All-from_get_or}
 use Rattle.std.proofs.lemmas.Bool.{cases_Bool, cond-true, cond-false, eqb-true, eq-eqb, both_ways}
 use Rattle.values.specs.declared.container.Container.{Container}
@@ -46,7 +46,7 @@ module _ (p : Parts) (a k : ℕ) (the_case : Container) (o q : ℕ → Container
   taken_same c (inl t) e = cond-true (eqb c.kind 1) _ _ t ∙ sym (cond-true (eqb c.kind 1) _ _ t)
   taken_same c (inr r) e = ap (λ (x : Container). cond (eqb c.kind 1) (field_at the_case c.source_field) (field_at x c.source_field)) (same c.source (subst (Reaches p.links c.source) e r))
 
-  fields_same : (cs : List Connector) → All (Sound p) cs → input_field cs a k the_case o ≡ input_field cs a k the_case q
+  fields_same : (cs : List Connector) → AllByRecursion (Sound p) cs → input_field cs a k the_case o ≡ input_field cs a k the_case q
   fields_same [] s = refl
   fields_same (c ∷ cs) s =
       ⊎_elim
