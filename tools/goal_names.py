@@ -19,7 +19,7 @@ MADE = {
 
 def files(top, ending):
     for folder, _, names in os.walk(top):
-        if "/out" in folder:
+        if folder.endswith("/out") or "/out/" in folder:
             continue
         for name in sorted(names):
             if name.endswith(ending):

@@ -19,7 +19,7 @@ SNAKE = re.compile(r"[A-Za-z_][\w']*")
 
 def files(top, ending):
     for folder, _, names in os.walk(top):
-        if "/out" in folder:
+        if folder.endswith("/out") or "/out/" in folder:
             continue
         for name in sorted(names):
             if name.endswith(ending):
