@@ -73,9 +73,9 @@ pub(crate) fn is_refused(rt: &impl Abort, bytes: &[u8], damage: &Damage) -> Resu
     let damaged = edited(bytes, edits)?;
     let mut flow = flow_of(loan::BYTES)?;
     match flow.read(damaged.as_slice()) {
-        Ok(()) => Err(Fail::new(format_args!("accepted, and not {cause} at {place}"))),
-        Err(refusal) => check_eq((refusal.cause(), refusal.place()), (cause, place)),
-    }?;
+        Ok(()) => return Err(Fail::new(format_args!("accepted, and not {cause} at {place}"))),
+        Err(refusal) => assert_eq!(rt; (refusal.cause(), refusal.place()), (cause, place)),
+    }
     is_the_loan(rt, &flow)
 }
 
