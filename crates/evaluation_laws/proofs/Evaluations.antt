@@ -1,11 +1,9 @@
 -- There is one evaluation, and treating activities by rank computes it.
-use Rattle.std.proofs.Common.{◌≡◌, ℕ, zero, suc, ◌+◌, ◌<◌, ◌≤◌, Bool, true, false, cond, eqb, List, [], ◌∷◌, ◌++◌, length, get_or, take, drop, sym, refl, ap, ◌∙◌, subst, ⊎_elim, add-one, arith}
+use Rattle.std.proofs.Common.{◌≡◌, ℕ, zero, suc, ◌+◌, ◌<◌, ◌≤◌, eqb, List, [], ◌∷◌, ◌++◌, get_or, take, sym, refl, ap, ◌∙◌, subst, ⊎_elim, add-one, arith}
 use Rattle.std.proofs.lemmas.List.{take_more, take_all}
-use Rattle.std.proofs.lemmas.Bool.{cases_eq, cases_lt, cond-true, cond-false, eq-eqb, ne_eqb}
+use Rattle.std.proofs.lemmas.Bool.{cases_eq, cond-true, cond-false, eq-eqb, ne_eqb}
 use Rattle.values.specs.declared.container.Container.{Container}
 use Rattle.partners.specs.Answers.{Answers}
-use Rattle.path_laws.specs.Paths.{Reaches}
-use Rattle.path_laws.specs.Ranks.{Ranks, EachOnce}
 use Rattle.path_laws.proofs.Orders.{paths_lead_forward}
 use Rattle.evaluation_laws.specs.declared.Outcome.{Outcome}
 use Rattle.evaluation_laws.specs.Plans.{Plan, LooksBack, order_of, Ranked}

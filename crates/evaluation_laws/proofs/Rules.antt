@@ -1,14 +1,12 @@
 -- The rule of one activity: the outcome it gives, and what it looks at.
-use Rattle.std.proofs.Common.{◌≡◌, ℕ, ◌<◌, Bool, true, false, cond, length, sym, refl, ap, ◌∙◌, subst, ⊎_elim, arith}
-use Rattle.std.proofs.lemmas.Bool.{cases_Bool, cond-true, cond-false, both_ways}
+use Rattle.std.proofs.Common.{◌≡◌, ℕ, true, cond, sym, refl, ap, ◌∙◌, subst, ⊎_elim}
+use Rattle.std.proofs.lemmas.Bool.{cases_Bool, cond-true, cond-false}
 use Rattle.values.specs.declared.container.Container.{Container}
-use Rattle.partners.specs.declared.fault.Fault.{Fault}
 use Rattle.partners.specs.Answers.{Answer, Answers, gives, faults}
-use Rattle.parts.specs.declared.Link.{Link}
-use Rattle.path_laws.specs.Paths.{link_at, Reaches, Linked, by_link}
+use Rattle.path_laws.specs.Paths.{Reaches, by_link}
 use Rattle.evaluation_laws.specs.declared.Outcome.{Outcome}
 use Rattle.evaluation_laws.specs.declared.Outcome.TheVariants.{Skipped, Completed, Faulted}
-use Rattle.evaluation_laws.specs.Plans.{Plan, source_of, Into, LooksBack}
+use Rattle.evaluation_laws.specs.Plans.{Plan, source_of, LooksBack}
 use Rattle.evaluation_laws.specs.Evaluations.{Valuation, outputs, output_of, statuses, taken, joins, input_of, answer_to, Rule, by_join, by_output, by_fault, answered, ruled}
 
 module _ (p : Plan) (the_case : Container) (answers : Answers) where

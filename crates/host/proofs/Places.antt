@@ -1,20 +1,19 @@
 -- Causes and places are small numbers.
-use Rattle.std.proofs.Common.{◌≡◌, ℕ, zero, suc, ◌+◌, ◌*◌, ◌^◌, ◌<◌, ◌≤◌, List, [], ◌∷◌, ◌++◌, length, get_or, take, sym, refl, ap, ◌∙◌, mul-le-mul_right, suc-mul, arith}
+use Rattle.std.proofs.Common.{ℕ, zero, suc, ◌+◌, ◌*◌, ◌^◌, ◌<◌, ◌≤◌, List, [], ◌∷◌, length, get_or, ap, mul-le-mul_right, suc-mul, arith}
 use Rattle.std.specs.List.{flat_map, AllByRecursion}
 use Rattle.std.proofs.lemmas.List.{length-append, length-take-le}
 use Rattle.conditions.proofs.Within.{fault_within}
 use Rattle.layout.specs.declared.refusal.LayoutRefusal.{LayoutRefusal}
 use Rattle.layout.specs.declared.refusal.LayoutRefusal.TheVariants.{Cut, Count, TextLength, Extra}
-use Rattle.layout.specs.Layout.{Parts, WithinLimits, Counts, GoodText, Item, bytes_of, encode, section_items, record_items, text_items, activity_bytes, link_bytes, connector_bytes}
+use Rattle.layout.specs.Layout.{Parts, Counts, GoodText, Item, bytes_of, encode, section_items, record_items, text_items, activity_bytes, link_bytes, connector_bytes}
 use Rattle.layout.specs.Verdicts.{Refused, Next}
 use Rattle.layout.proofs.Taking.{bytes_append}
-use Rattle.path_laws.specs.Paths.{link_at}
 use Rattle.rules.specs.declared.refusal.RuleRefusal.{RuleRefusal}
 use Rattle.rules.specs.declared.refusal.RuleRefusal.TheVariants.{Flags, NoEnd, Twice, Cycle, BadConnector, NoPath, BadText}
 use Rattle.rules.specs.Rules.{Broken, kind_of_text}
 use Rattle.flows.specs.declared.refusal.DefinitionRefusal.{DefinitionRefusal}
 use Rattle.flows.specs.declared.refusal.DefinitionRefusal.TheVariants.{Layout, Rule}
-use Rattle.flows.specs.Refusals.{cause_of, place_of}
+use Rattle.flows.specs.Refusals.{place_of}
 use Rattle.flows.specs.Verdicts.{refused, Judged}
 
 -- elements of at most so many bytes each

@@ -2,7 +2,6 @@
 use Rattle.std.specs.Prelude.{◌≡◌, ℕ, ◌<◌, ◌≤◌, length, Ok, Err, Result}
 use Rattle.std.proofs.Common.{lit≤}
 use mir.Syntax.{Dict}
-use Rattle.values.specs.declared.container.Container.{Container}
 use Rattle.partners.specs.declared.fault.Fault.{Fault}
 use Rattle.partners.specs.declared.partner.Partner.{Ghosts as Meaning}
 use Rattle.partners.specs.declared.refusal.Refused.{Refused}

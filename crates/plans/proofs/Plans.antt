@@ -1,10 +1,9 @@
 -- A flow's plan looks only where it may, has ranks, and goes by the readings of the texts.
-use Rattle.std.proofs.Common.{◌≡◌, ℕ, ◌<◌, Bool, true, false, cond, ◌&&◌, eqb, ◌⊎◌, List, [], ◌∷◌, length, sym, refl, ap, ◌∙◌, subst, inl, inr, ⊎_elim, arith}
+use Rattle.std.proofs.Common.{◌≡◌, ℕ, ◌<◌, true, false, cond, ◌&&◌, eqb, ◌⊎◌, List, [], ◌∷◌, length, sym, refl, ap, ◌∙◌, subst, inl, inr, ⊎_elim}
 use Rattle.std.specs.List.{AllByRecursion}
 use Rattle.std.proofs.ByRecursion.{All-from_get_or}
 use Rattle.std.proofs.lemmas.Bool.{cases_Bool, cond-true, cond-false, eqb-true, eq-eqb, both_ways}
 use Rattle.values.specs.declared.container.Container.{Container}
-use Rattle.values.specs.declared.field.Field.{Field}
 use Rattle.values.specs.Layout.{field_at}
 use Rattle.grammar.specs.Grammar.{join, transition}
 use Rattle.conditions.specs.Truths.{of_bool}

@@ -9,7 +9,6 @@ use Rattle.conditions.specs.Texts.{Reading}
 use Rattle.conditions.specs.Truths.{holds}
 use Rattle.conditions.specs.Values.{value, over_output}
 use Rattle.readings.specs.Readings.{reading_of, holding, by_status}
-use Rattle.parts.specs.declared.Link.{Link}
 use Rattle.parts.specs.declared.Connector.{Connector}
 use Rattle.layout.specs.Layout.{Parts}
 use Rattle.rules.specs.Rules.{activity_at, into}

@@ -1,15 +1,14 @@
-use Rattle.std.proofs.Common.{◌≡◌, ℕ, ◌<◌, length, get_or, replicate, sym, refl, ap, ◌∙◌, subst, ⊎_elim, arith, length-set}
+use Rattle.std.proofs.Common.{◌≡◌, ℕ, ◌<◌, length, get_or, replicate, refl, ap, ◌∙◌, subst, ⊎_elim, arith, length-set}
 use Rattle.std.proofs.lemmas.List.{get_or-replicate, get_or_past}
 use Rattle.std.proofs.lemmas.Bool.{cases_lt}
 use Rattle.flows.proofs.Sizes.{few_activities}
 use Rattle.flows.specs.Flows.{flow_parts}
 use Rattle.plans.proofs.Plans.{looks_back, has_ranks, by_readings}
-use Rattle.evaluation_laws.specs.declared.Outcome.{Outcome}
 use Rattle.evaluation_laws.specs.declared.Outcome.TheVariants.{Skipped}
 use Rattle.evaluation_laws.specs.Evaluations.{Valuation, ruled}
 use Rattle.evaluation_laws.proofs.Evaluations.{one_evaluation, by_rank}
 use Rattle.evaluation.specs.Flows.{flow_plan, valuation_of}
-use Rattle.evaluation.specs.Evaluated.{Evaluates, Tells}
+use Rattle.evaluation.specs.Evaluated.{Tells}
 use Rattle.evaluation.proofs.Treating.{Treated, treated_more, treated_all}
 use Rattle.evaluation.proofs.evaluating.evaluate.Goals as goal
 

@@ -1,8 +1,7 @@
-use Rattle.std.proofs.Common.{◌≡◌, ℕ, ◌<◌, ◌≤◌, length, sym, refl, ap, ◌∙◌, arith, w64, to_z, of_z}
+use Rattle.std.proofs.Common.{◌≡◌, ℕ, ◌≤◌, length, sym, ap, ◌∙◌, arith, w64, to_z, of_z}
 use Rattle.std.proofs.lemmas.List.{length-take-le}
 use Rattle.std.proofs.lemmas.Int.{ints}
 use Rattle.flows.proofs.Sizes.{few_activities, few_links}
-use Rattle.flows.specs.Flows.{flow_parts}
 use Rattle.evaluation_laws.specs.Evaluations.{charge_below}
 use Rattle.evaluation.specs.Flows.{valuation_of}
 use Rattle.evaluation.proofs.Elements.{element_taken}

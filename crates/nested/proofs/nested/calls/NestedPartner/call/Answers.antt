@@ -1,4 +1,4 @@
-use Rattle.std.proofs.Common.{◌≡◌, ℕ, List, get_or, Some, Option, sym, ap, ◌∙◌, subst}
+use Rattle.std.proofs.Common.{◌≡◌, ℕ, List, get_or, Some, Option, ap, ◌∙◌, subst}
 use Rattle.layout.specs.Drafts.{ElementAt}
 use Rattle.partners.specs.Answers.{Answer}
 use Rattle.partners.specs.Calls.{Said}
