@@ -4,6 +4,7 @@
 
 use anyhow::anyhow;
 use std::alloc::Global;
+use std::process::ExitCode;
 use std::{env, fs};
 
 mod cases;
@@ -13,12 +14,14 @@ mod weighing;
 const USAGE: &str =
     "usage: jirvelko [samples | case FILE.. | weigh TEXT [f0=NUMBER ..] | script FILE]";
 
-fn main(rt: HostRuntime) -> anyhow::Result<()> {
-    let result = run(&rt);
-    if let Err(error) = &result {
-        let _ = eprintln!(rt; "jirvelko: {error}");
+fn main(rt: HostRuntime) -> ExitCode {
+    match run(&rt) {
+        Ok(()) => ExitCode::SUCCESS,
+        Err(error) => {
+            let _ = eprintln!(rt; "jirvelko: {error}");
+            ExitCode::FAILURE
+        }
     }
-    result
 }
 
 fn run(rt: &HostRuntime) -> anyhow::Result<()> {
