@@ -11,8 +11,9 @@ pub enum LayerRefusal {
 /// Why a layer is not made, and the partner that was handed over for it.
 #[derive(Drop)]
 pub struct Refused<R, P> {
-    pub refusal: R,
+    // First, as in a layer: LLVM takes minutes over a large partner that moves between two places.
     pub partner: P,
+    pub refusal: R,
 }
 
 impl LayerRefusal {
