@@ -3,7 +3,7 @@
 ghost use Rattle.std.specs.Prelude.{◌≡◌, ◌<◌, ◌≤◌, length, take};
 ghost use Rattle.conditions.specs.Values.{links_of};
 ghost use Rattle.flows.specs.Flows.{flow_parts};
-ghost use Rattle.plans.specs.Plans.{incoming as links-into};
+ghost use Rattle.plans.specs.Plans.{incoming as links_into};
 ghost use Rattle.evaluation_laws.specs.Evaluations.{statuses, joins};
 ghost use Rattle.evaluation.specs.Flows.{flow_plan, valuation_of, HaveStatuses};
 
@@ -45,7 +45,7 @@ fn incoming(flow: &Flow, outcomes: &[Outcome], activity: usize, places: &mut [In
     requires places { length outcomes.now ≡ 32 }
     requires room { length places.old ≡ 128 }
     ensures within { result ≤ 128 }
-    ensures links { links_of (take result places.new) ≡ links-into (flow_parts flow.now) activity }
+    ensures links { links_of (take result places.new) ≡ links_into (flow_parts flow.now) activity }
     ensures statuses { HaveStatuses (statuses (flow_plan flow.now) (valuation_of outcomes.now)) (take result places.new) }
 {
     let links = flow.links();

@@ -123,8 +123,8 @@ module _ {X : Type 0} {items : X → List Item} {good : X → Type 0} {before : 
 
     -- refused at its count, or at an element
     pub section_refused : (stops : List ℕ → ℕ → LayoutRefusal → Type 0) {e : LayoutRefusal} → ((n there : ℕ) → CountIs bs at there least greatest n → Stopped items good stops bs there n e → Refused bs e) → SectionStops items good stops bs at least greatest e → Refused bs e
-    section_refused stops at-elements (at_count h) = count_refused h
-    section_refused stops at-elements (at_element n there count_is h) = at-elements n there count_is h
+    section_refused stops at_elements (at_count h) = count_refused h
+    section_refused stops at_elements (at_element n there count_is h) = at_elements n there count_is h
 
 -- a section of records
 pub records_refused : {X : Type 0} (f : X → List ℕ) {before : List Item} {least greatest : ℕ} (s : Section (record_items f) Any before least greatest) {bs : List ℕ} → AllByRecursion Byte bs → {at : ℕ} → Took bs 0 at (bytes_of before) → {e : LayoutRefusal} → SectionStops (record_items f) Any (CutAt (length (f s.blank))) bs at least greatest e → Refused bs e
@@ -151,21 +151,21 @@ module _ {before : List Item} {least greatest : ℕ} (s : Section text_items Goo
   text_refused n there count_is ts fewer fine took (no_length h) =
       let goes = goes_element s n ts s.blank count_is.1 fewer fine s.blank_good in
       subst (Refused bs) (sym h.0) (record { item = _; next = goes_next goes s.blank_bytes all_bytes (front_more text_items before ts front count_is took); ends = h.1 })
-  text_refused n there count_is ts fewer fine took (bad_length e number length-took outside) =
+  text_refused n there count_is ts fewer fine took (bad_length e number length_took outside) =
       let goes = goes_element s n ts s.blank count_is.1 fewer fine s.blank_good in
       subst (Refused bs) (sym e) (record {
         number = _;
         next = goes_next goes s.blank_bytes all_bytes (front_more text_items before ts front count_is took);
-        there = length-took.within;
+        there = length_took.within;
         through = λ g. outside (length_good g.parts.texts ts number g.rest g.limits.counts.good_texts
             (texts_kept g.parts g.limits.counts n (bytes_of (flat_map text_items ts) ++ number ∷ g.rest)
-            (begins_is front (took_more count_is.0 (took_more took length-took)) g ∙ simp append_assoc)));
+            (begins_is front (took_more count_is.0 (took_more took length_took)) g ∙ simp append_assoc)));
       })
-  text_refused n there count_is ts fewer fine {to} took (short_text number length-took good h) =
+  text_refused n there count_is ts fewer fine {to} took (short_text number length_took good h) =
       let long : length (spaces number) ≡ number = length-replicate number 32 in
       let base = before ++ head text_items n ts in
       let goes = goes_element s n ts (spaces number) count_is.1 fewer fine (omega (arith, good.0), omega (arith, good.1)) in
-      let length_there : Took bs to (to + 1) (length (spaces number) ∷ []) = rw long length-took in
+      let length_there : Took bs to (to + 1) (length (spaces number) ∷ []) = rw long length_took in
       let front_there = took_items base (a_length (length (spaces number)) ∷ []) (front_more text_items before ts front count_is took) length_there in
       let next = goes_next (goes_on base (a_length (length (spaces number))) (a_text (spaces number) ∷ []) goes) (text_bytes_good number (omega (arith, good.1))).1 all_bytes front_there in
       subst (Refused bs) (sym h.0) (record { item = _; next = next; ends = omega (arith, h.1, long) })

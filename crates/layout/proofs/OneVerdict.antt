@@ -131,7 +131,7 @@ unfolding link_of
 link_same a b e = link_made (ap (λ l. get_or l 0 0) e) (ap (λ l. get_or l 1 0) e)
 
 connector_of : ℕ → ℕ → ℕ → ℕ → ℕ → Connector
-connector_of target target-field kind source source-field = record { target = target; target_field = target-field; kind = kind; source = source; source_field = source-field }
+connector_of target target_field kind source source_field = record { target = target; target_field = target_field; kind = kind; source = source; source_field = source_field }
 
 connector_made : {t u k s v t' u' k' s' v' : ℕ} → t ≡ t' → u ≡ u' → k ≡ k' → s ≡ s' → v ≡ v' → connector_of t u k s v ≡ connector_of t' u' k' s' v'
 connector_made a b c d e = cc

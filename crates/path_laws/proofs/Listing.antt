@@ -1,6 +1,6 @@
 -- What is in a list.
 use Rattle.std.proofs.Common.{◌≡◌, ℕ, ◌<◌, not, ◌||◌, eqb, ◌⊎◌, List, [], ◌∷◌, ◌++◌, length, get_or, Decides, sym, refl, ap, ◌∙◌, inl, inr, ⊎_elim, arith}
-use Rattle.std.specs.List.{AllByRecursion as All}
+use Rattle.std.specs.List.{AllByRecursion}
 use Rattle.std.proofs.ByRecursion.{All-get_or, All-from_get_or, Decides-by_and}
 use Rattle.std.proofs.lemmas.List.{get_or_append_left, get_or_push, get_or_default, length_push}
 use Rattle.std.proofs.lemmas.Bool.{cases_eq, cases_lt}
@@ -39,7 +39,7 @@ source_decides order a l =
     (λ h. ⊎_elim (λ e. inr (h e)) (λ ne. inl ne) (cases_eq l.target a))
     (Decides-or (not (eqb l.target a)) (lists order l.source) (Decides-not (eqb l.target a) (Decides-eqb l.target a)) (lists_decides order l.source))
 
-sources_decide : (links : List Link) (order : List ℕ) (a : ℕ) → Decides (lists_sources order a links) (All (SourceListed order a) links)
+sources_decide : (links : List Link) (order : List ℕ) (a : ℕ) → Decides (lists_sources order a links) (AllByRecursion (SourceListed order a) links)
 sources_decide links order a = Decides-by_and (λ l. not (eqb l.target a) || lists order l.source) (SourceListed order a) (λ ls. lists_sources order a ls) (source_decides order a) refl (λ _ _. refl) links
 
 pub ready_decides : (count : ℕ) (links : List Link) (order : List ℕ) (a : ℕ) → a < count → Decides (is_ready links order a) (Ready count links order a)

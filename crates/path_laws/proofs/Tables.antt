@@ -21,25 +21,25 @@ module _ (k a : ℕ) (t u : ℕ → ℕ → Bool) (j : Joins a k t u) where
 
   -- a row that has k is joined with row k
   pub joins_row : (v : ℕ → ℕ → Bool) → u a k ≡ true → ((b : ℕ) → v a b ≡ (u a b || t k b)) → ((x b : ℕ) → (x ≡ a → ⊥) → v x b ≡ u x b) → Joins (a + 1) k t v
-  joins_row v has-k here other = more v row other
+  joins_row v has_k here other = more v row other
     where
       stays : (b : ℕ) → u a b ≡ t a b
       stays b = j.rest a b (omega arith)
 
       row : (b : ℕ) → Row v a b
       row b = (
-        λ h. ⊎_elim (λ x. inl (sym (stays b) ∙ x)) (λ x. inr (sym (stays k) ∙ has-k, x)) (or_cases (u a b) (t k b) (sym (here b) ∙ h)),
+        λ h. ⊎_elim (λ x. inl (sym (stays b) ∙ x)) (λ x. inr (sym (stays k) ∙ has_k, x)) (or_cases (u a b) (t k b) (sym (here b) ∙ h)),
         λ h. here b ∙ ⊎_elim (λ x. or_left (u a b) (t k b) (stays b ∙ x)) (λ x. or_right (u a b) (t k b) x.1) h,
       )
 
   -- a row that has not stays
   pub joins_past : u a k ≡ false → Joins (a + 1) k t u
-  joins_past lacks-k = more u row (λ x b ne. refl)
+  joins_past lacks_k = more u row (λ x b ne. refl)
     where
       row : (b : ℕ) → Row u a b
       row b = (
         λ h. inl (sym (j.rest a b (omega arith)) ∙ h),
-        λ h. ⊎_elim (λ x. j.rest a b (omega arith) ∙ x) (λ x. absurd (both_ways (u a k) lacks-k (j.rest a k (omega arith) ∙ x.0))) h,
+        λ h. ⊎_elim (λ x. j.rest a b (omega arith) ∙ x) (λ x. absurd (both_ways (u a k) lacks_k (j.rest a k (omega arith) ∙ x.0))) h,
       )
 
 module _ (Makes : ℕ → ℕ → ℕ → Type 0) where

@@ -1,6 +1,6 @@
 -- What a take leaves stood in the pool before it, so no later take gives an element that comes before an earlier one.
 use Rattle.std.proofs.Common.{◌≡◌, ℕ, zero, suc, ◌<◌, List, [], ◌∷◌, ◌++◌, length, get_or, take, drop, sym, refl, subst, arith}
-use Rattle.std.specs.List.{remove, AllByRecursion as All}
+use Rattle.std.specs.List.{remove, AllByRecursion}
 use Rattle.std.specs.List.Sorted.{IsPermutation}
 use Rattle.std.proofs.ByRecursion.{All-get_or, All-from_get_or, All-take, All-drop, All-append}
 use Rattle.std.proofs.lemmas.List.Sorted.{IsPermutation-refl, IsPermutation-cons, IsPermutation-swap, IsPermutation-trans}
@@ -10,14 +10,14 @@ use Rattle.pools.specs.Least.{OutAt, LeastOut}
 use Rattle.pools.specs.Takes.{Takes, ended, gave, refused, Rising, TakenComeRising, TakesLoseNothing}
 
 -- what holds of each element of a list holds of the one that is taken out, and of the others
-out_all : {X : Type 0} (P : X → Type 0) (xs ys : List X) (at : ℕ) (x : X) → OutAt xs at x ys → All P xs → P x × All P ys
+out_all : {X : Type 0} (P : X → Type 0) (xs ys : List X) (at : ℕ) (x : X) → OutAt xs at x ys → AllByRecursion P xs → P x × AllByRecursion P ys
 out_all P xs ys at x out all =
     (subst P (sym out.stood) (All-get_or P xs at x out.within all), rw out.rest_is (All-append P (take at xs) (drop (suc at) xs) (All-take P at xs all) (All-drop P (suc at) xs all)))
 
-none_before : {X : Type 0} (before : X → X → Type 0) (xs ys : List X) (x : X) → LeastOut before xs x ys → All (λ y. before y x → ⊥) xs
+none_before : {X : Type 0} (before : X → X → Type 0) (xs ys : List X) (x : X) → LeastOut before xs x ys → AllByRecursion (λ y. before y x → ⊥) xs
 none_before before xs ys x t = All-from_get_or (λ y. before y x → ⊥) xs x (λ k l. t.least k x l)
 
-given_all : {X : Type 0} (before : X → X → Type 0) (P : X → Type 0) {p : Pool X} {xs : List X} {q : Pool X} → Takes before p xs q → All P (contents p) → All P xs
+given_all : {X : Type 0} (before : X → X → Type 0) (P : X → Type 0) {p : Pool X} {xs : List X} {q : Pool X} → Takes before p xs q → AllByRecursion P (contents p) → AllByRecursion P xs
 given_all before P (ended p) all = tt
 given_all before P (gave p m q x xs t rest) all =
     let both = out_all P (contents p) (contents m) t.least_out.at x t.least_out.out all in

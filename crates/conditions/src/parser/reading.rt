@@ -1,6 +1,6 @@
 //! Conditions, terms and factors.
 
-ghost use Rattle.grammar.specs.Grammar.{condition as condition-level, term as term-level, factor as factor-level};
+ghost use Rattle.grammar.specs.Grammar.{condition as condition_level, term as term_level, factor as factor_level};
 ghost use Rattle.conditions.specs.Steps.{Kept, Parsed};
 
 use super::Parser;
@@ -14,7 +14,7 @@ impl<'a> Parser<'a> {
     #[cycle(condition_factor_term)]
     pub(crate) fn condition(&mut self) -> Result<Truth, Fault>
         ensures kept { Kept self.old self.new }
-        ensures parsed { Parsed condition-level self.old result self.new }
+        ensures parsed { Parsed condition_level self.old result self.new }
     {
         let mut value = self.term()?;
         while self.at_or() {
@@ -28,7 +28,7 @@ impl<'a> Parser<'a> {
     #[cycle(condition_factor_term)]
     fn term(&mut self) -> Result<Truth, Fault>
         ensures kept { Kept self.old self.new }
-        ensures parsed { Parsed term-level self.old result self.new }
+        ensures parsed { Parsed term_level self.old result self.new }
     {
         let mut value = self.factor()?;
         while self.at_and() {
@@ -42,7 +42,7 @@ impl<'a> Parser<'a> {
     #[cycle(condition_factor_term)]
     fn factor(&mut self) -> Result<Truth, Fault>
         ensures kept { Kept self.old self.new }
-        ensures parsed { Parsed factor-level self.old result self.new }
+        ensures parsed { Parsed factor_level self.old result self.new }
     {
         let first = self.lexer.symbol()?;
         let place = first.place;

@@ -1,5 +1,5 @@
 ghost use Rattle.nested.specs.Nesting.{NestedMade};
-ghost use Rattle.nested.specs.contracts.nested.calls.NestedPartner.TheImpl.{ghosts as nested-meaning};
+ghost use Rattle.nested.specs.contracts.nested.calls.NestedPartner.TheImpl.{ghosts as nested_meaning};
 
 use super::Nested;
 use crate::refusal::NestedRefusal;
@@ -10,7 +10,7 @@ use partners::refusal::Refused;
 impl<P: Partner> Nested<P> {
     /// A flow over this partner, whose answers are those of the result activity.
     pub fn new(flow: Flow, res: usize, below: P) -> Result<Nested<P>, Refused<NestedRefusal, P>>
-        ensures { NestedMade P.Partner (nested-meaning P.row P.Partner) flow res below result }
+        ensures { NestedMade P.Partner (nested_meaning P.row P.Partner) flow res below result }
     {
         if res >= flow.activity_count() {
             return Err(Refused {

@@ -1,7 +1,7 @@
 ghost use Rattle.std.specs.Prelude.{◌≡◌, ◌*◌, ◌≤◌, length};
 ghost use Rattle.tables.specs.Tables.{FirstFitComputed};
 ghost use Rattle.tables.specs.Reading.{RowsRead, TableRead, EmptyTable, OneVerdict, OneEncoding};
-ghost use Rattle.tables.specs.contracts.table.calls.RuleTablePartner.TheImpl.{ghosts as table-meaning};
+ghost use Rattle.tables.specs.contracts.table.calls.RuleTablePartner.TheImpl.{ghosts as table_meaning};
 
 use super::RuleTable;
 use crate::numbers::number;
@@ -15,7 +15,7 @@ const ROW_WIDTH: usize = 93;
 impl RuleTable {
     /// A table with no rows.
     pub fn new() -> RuleTable
-        ensures { EmptyTable table-meaning result }
+        ensures { EmptyTable table_meaning result }
     {
         RuleTable {
             rows: [Row::unused(); 64],
@@ -25,7 +25,7 @@ impl RuleTable {
 
     /// Replaces the table by the one that the bytes encode.
     pub fn read(&mut self, bytes: &[u8]) -> Result<(), TableRefusal>
-        ensures verdict { TableRead table-meaning bytes.now self.old self.new result }
+        ensures verdict { TableRead table_meaning bytes.now self.old self.new result }
         ensures one_verdict { OneVerdict bytes.now }
         ensures one_encoding { OneEncoding }
         ensures first_fit { FirstFitComputed }

@@ -1,6 +1,6 @@
 ghost use Rattle.std.specs.Prelude.{◌≡◌, ◌≤◌, MatchOption};
 ghost use Rattle.test_partners.specs.Listings.{ListingMade, CallAt};
-ghost use Rattle.test_partners.specs.contracts.listing.calls.ListingPartner.TheImpl.{ghosts as listing-meaning};
+ghost use Rattle.test_partners.specs.contracts.listing.calls.ListingPartner.TheImpl.{ghosts as listing_meaning};
 
 use super::{Call, Listing};
 use partners::fault::Fault;
@@ -9,7 +9,7 @@ use values::container::Container;
 impl Listing {
     /// A partner that is busy so many times first.
     pub fn new(busy: usize, fault: Option<Fault>) -> Listing
-        ensures { ListingMade listing-meaning busy fault result }
+        ensures { ListingMade listing_meaning busy fault result }
     {
         let none = Call {
             operation: 0,
