@@ -2,6 +2,8 @@
 
 #![tactic(auto)]
 
+ghost use Rattle.parts.specs.Kinds.{HasKind};
+
 /// An activity: its operation, its priority, and its flags.
 #[derive(Clone, Copy, PartialEq, Eq, Debug)]
 pub struct Activity {
@@ -25,4 +27,31 @@ pub struct Connector {
     pub kind: u8,
     pub source: u8,
     pub source_field: u8,
+}
+
+/// What a connector takes a field of.
+#[derive(Clone, Copy, PartialEq, Eq, Debug)]
+pub enum ConnectorKind {
+    /// Of the case.
+    Case,
+    /// Of an activity's output.
+    Output,
+}
+
+/// A number that stands for no kind of connector.
+#[derive(Clone, Copy, PartialEq, Eq, Debug)]
+pub struct UnknownKind(pub u8);
+
+impl TryFrom<u8> for ConnectorKind {
+    type Error = UnknownKind;
+
+    ghost try_from_gives = { HasKind };
+
+    fn try_from(number: u8) -> Result<ConnectorKind, UnknownKind> {
+        match number {
+            1 => Ok(ConnectorKind::Case),
+            2 => Ok(ConnectorKind::Output),
+            _ => Err(UnknownKind(number)),
+        }
+    }
 }
