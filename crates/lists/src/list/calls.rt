@@ -42,7 +42,7 @@ impl<T: Copy, const N: usize> BoundedList<T, N> {
     pub fn len(&self) -> usize
         ensures { result ≡ length (items self.now) }
     {
-        self.count
+        self.as_slice().len()
     }
 
     /// The element at a place, the first of which is 0.
