@@ -1,13 +1,13 @@
 """Lists what in src/ may be written in an older form than Rattle has: python3 tools/forms.py [NUMBER ..]
 
-1 enums, numbers that stand for kinds, flags with a value beside, matches on an Option or a Result
+1 enums of the shape of Option or Result or without derives, numbers for kinds, flags with a value, matches on an Option or a Result
 2 functions and structs that are alike but for names and numbers
 3 loops over a range, or with `while`
-4 impls of traits that a derive can write, and conversions and orders by hand
+4 impls of traits that a derive can write, conversions and orders by hand
 5 clauses, and groups of parameters, that three or more functions have
-6 arrays with a count beside, and arrays of marks
+6 structs of an array and a count, and arrays that a function fills
 7 matches on a kind, and tables of functions
-8 answers in proofs/
+8 answers, invariants and lemmas in proofs/
 """
 import collections
 import glob
@@ -66,9 +66,22 @@ def matches():
                 yield f"{path}:{text.count(chr(10), 0, found.start()) + 1}: match {found.group(3)}"
 
 
+def enums():
+    """Each enum: its place, its name, what it derives, and the payload of each variant."""
+    for path, text in sources():
+        for found in re.finditer(r"((?:#\[derive\(.*\)\]\n)?)(?:pub(?:\(crate\))? )?enum (\w+)[^{]*\{([^}]*)\}", text):
+            body = re.sub(r"//.*", "", found.group(3))
+            variants = re.findall(r"\b[A-Z]\w*(?:\(([^)]*)\))?,", body)
+            yield f"{path}: enum {found.group(2)}", found.group(1), variants
+
+
 def one():
-    yield from lines(r"\benum ")
-    yield from lines(r"\bkind\b.*==|\btag\b.*==|match \w+(\.\w+)*\.(kind|tag)\b|from_number|Result<bool>|Result<\(\), usize>")
+    for place, derived, variants in enums():
+        if len(variants) == 2 and any(variants) and not any("," in v for v in variants):
+            yield f"{place}: two variants, as an Option or a Result has"
+        if "PartialEq" not in derived or "Debug" not in derived:
+            yield f"{place}: no Debug, PartialEq"
+    yield from lines(r"\bkind\b.*==|\btag\b.*==|match \w+(\.\w+)*\.(kind|tag)\b|from_number|Result<bool>|Result<\(\), usize>|kind: Kind")
     yield from matches()
 
 
@@ -95,12 +108,7 @@ def three():
 
 
 def four():
-    yield from lines(r"impl.* (PartialEq|Eq|PartialOrd|Ord|Clone|Copy|Debug|Hash|Default|Ordered)\b.* for |fn (from|to|as|into)_\w+\(|fn is_before")
-    for path, text in sources():
-        for found in re.finditer(r"((?:#\[derive\((.*)\)\]\n)?)pub (?:\(crate\) )?(enum|struct) (\w+)", text):
-            wanted = {"PartialEq", "Debug"} - set(re.split(r", ", found.group(2) or ""))
-            if wanted:
-                yield f"{path} {found.group(3)} {found.group(4)}: no {', '.join(sorted(wanted))}"
+    yield from lines(r"impl.* (PartialEq|Eq|PartialOrd|Ord|Clone|Copy|Debug|Hash|Default|Ordered)\b.* for |fn from_\w+\(|fn is_before")
 
 
 def five():
@@ -115,7 +123,7 @@ def five():
                 groups[first + second].add(where)
     for group in (clauses, groups):
         for what, where in sorted(group.items(), key=lambda g: -len(g[1])):
-            if len(where) >= 3:
+            if len(where) >= 3 and what[0] != "rt":
                 yield f"{len(where)} {what if isinstance(what, str) else ' '.join(what)}: {', '.join(sorted(where))}"
 
 
@@ -124,9 +132,7 @@ def six():
         for found in re.finditer(r"struct (\w+)[^{;]*\{([^}]*)\}", text):
             if re.search(r"\[\w+(; \w+)?\],?$", found.group(2), re.M) and re.search(r"\b\w*(count|length|len)\b: usize", found.group(2)):
                 yield f"{path} struct {found.group(1)}"
-    for line in lines(r"\[[^\];]+; ?[^\]]+\]"):
-        if not re.search(r"\b(const|static) |: &\[|pub\(crate\) type|\bfn ", line):
-            yield line
+    yield from lines(r"let mut \w+(: \S+)? = \[[^\];]+; ?[^\]]+\]")
 
 
 def seven():
@@ -134,13 +140,16 @@ def seven():
 
 
 def eight():
+    counts = collections.defaultdict(collections.Counter)
     for path in sorted(glob.glob("crates/*/proofs/**/*.antt", recursive=True)):
         with open(path) as file:
             text = file.read()
-        kind = "answers" if path.endswith("Answers.antt") else "invariants" if path.endswith("Invariants.antt") else "lemmas"
-        count = len(re.findall(r"^(?:abbrev )?pub [\w-]+ :", text, re.M)) + len(re.findall(r"^[a-z][\w-]* :", text, re.M))
-        if not path.endswith("Lib.antt"):
-            yield f"{path[len('crates/'):]} {kind}: {count}"
+        kind = {"Answers.antt": "answers", "Invariants.antt": "invariants"}.get(path.split("/")[-1], "lemmas")
+        crate = path.split("/")[1]
+        counts[crate][kind] += len(re.findall(r"^(?:abbrev )?(?:pub )?[a-z]\S* :", text, re.M))
+        counts[crate]["lines"] += text.count("\n")
+    for crate, count in counts.items():
+        yield f"{crate}: {count['answers']} answers, {count['invariants']} invariants, {count['lemmas']} lemmas, {count['lines']} lines"
 
 
 POINTS = [one, two, three, four, five, six, seven, eight]
