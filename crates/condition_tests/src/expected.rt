@@ -8,10 +8,8 @@ use values::container::Container;
 use values::field::Field;
 
 fn number(value: i64) -> Result<Field, Fail> {
-    match Amount::new(value) {
-        Some(amount) => Ok(Field::Number(amount)),
-        None => Err(Fail::new("no amount")),
-    }
+    let amount = Amount::new(value).ok_or_else(|| Fail::new("no amount"))?;
+    Ok(Field::Number(amount))
 }
 
 /// f0 = 5, f2 = -7, f3 = 0, f4 and f5 the largest and the smallest, f7 = 12; f1 and f6 are blank.
@@ -28,54 +26,64 @@ fn output() -> Result<Container, Fail> {
     ]))
 }
 
-/// The transition text is one, and has this value over the output above.
-pub(crate) fn transition_value(rt: &impl Abort, bytes: &[u8], value: bool) -> Result<(), Fail> {
-    let Some(text) = Text::new(bytes) else {
-        return Err(Fail::new("too long"));
-    };
-    assert_eq!(rt; text.check_transition(), Ok(()), "{bytes:?}");
-    assert_eq!(rt; text.weigh_transition(&output()?), Ok(value), "{bytes:?}");
+pub(crate) fn text(bytes: &[u8]) -> Result<Text, Fail> {
+    Text::new(bytes).ok_or_else(|| Fail::new("too long"))
+}
+
+/// Checking and weighing these bytes answered the same: the value, or the fault that is expected.
+fn both(
+    rt: &impl Abort,
+    bytes: &[u8],
+    checked: Result<(), Fault>,
+    weighed: Result<bool, Fault>,
+    expected: Result<bool, Fault>,
+) {
+    assert_eq!(rt; checked, expected.map(|_| ()), "{bytes:?}");
+    assert_eq!(rt; weighed, expected, "{bytes:?}");
+}
+
+/// The transition text has this value over the output above, or it is none, with this fault.
+pub(crate) fn transition(
+    rt: &impl Abort,
+    bytes: &[u8],
+    expected: Result<bool, Fault>,
+) -> Result<(), Fail> {
+    let text = text(bytes)?;
+    let weighed = text.weigh_transition(&output()?);
+    both(rt, bytes, text.check_transition(), weighed, expected);
     Ok(())
 }
 
-/// The bytes are no transition text: they have their fault at this place.
-pub(crate) fn transition_fault(rt: &impl Abort, bytes: &[u8], place: usize) -> Result<(), Fail> {
-    let Some(text) = Text::new(bytes) else {
-        return Err(Fail::new("too long"));
-    };
-    let fault = Fault { place };
-    assert_eq!(rt; text.check_transition(), Err(fault), "{bytes:?}");
-    assert_eq!(rt; text.weigh_transition(&output()?), Err(fault), "{bytes:?}");
-    Ok(())
-}
-
-/// The join text is one, and has this value over these links.
-pub(crate) fn join_value(
+/// The join text has this value over these links, or it is none over them, with this fault.
+pub(crate) fn join(
     rt: &impl Abort,
     bytes: &[u8],
     links: &[Incoming],
-    value: bool,
+    expected: Result<bool, Fault>,
 ) -> Result<(), Fail> {
-    let Some(text) = Text::new(bytes) else {
-        return Err(Fail::new("too long"));
-    };
-    assert_eq!(rt; text.check_join(links), Ok(()), "{bytes:?}");
-    assert_eq!(rt; text.weigh_join(links), Ok(value), "{bytes:?}");
+    let text = text(bytes)?;
+    both(
+        rt,
+        bytes,
+        text.check_join(links),
+        text.weigh_join(links),
+        expected,
+    );
     Ok(())
 }
 
-/// The bytes are no join text over these links: they have their fault at this place.
-pub(crate) fn join_fault(
-    rt: &impl Abort,
-    bytes: &[u8],
-    links: &[Incoming],
-    place: usize,
-) -> Result<(), Fail> {
-    let Some(text) = Text::new(bytes) else {
-        return Err(Fail::new("too long"));
-    };
-    let fault = Fault { place };
-    assert_eq!(rt; text.check_join(links), Err(fault), "{bytes:?}");
-    assert_eq!(rt; text.weigh_join(links), Err(fault), "{bytes:?}");
+/// Each transition text has the value beside it.
+pub(crate) fn transition_values(rt: &impl Abort, texts: &[(&[u8], bool)]) -> Result<(), Fail> {
+    for (bytes, value) in texts {
+        transition(rt, bytes, Ok(*value))?;
+    }
+    Ok(())
+}
+
+/// Each is no transition text, and has its fault at the place beside it.
+pub(crate) fn transition_faults(rt: &impl Abort, texts: &[(&[u8], usize)]) -> Result<(), Fail> {
+    for (bytes, place) in texts {
+        transition(rt, bytes, Err(Fault { place: *place }))?;
+    }
     Ok(())
 }

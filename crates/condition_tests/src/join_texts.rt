@@ -1,6 +1,7 @@
-use crate::expected::{join_fault, join_value};
+use crate::expected::join;
 use conditions::ground::Incoming;
 use std::test::Fail;
+use tokens::fault::Fault;
 
 /// L0 is true, L3 false, L127 true.
 const LINKS: [Incoming; 3] = [
@@ -90,15 +91,15 @@ const FAULTS: [(&[u8], usize); 43] = [
 #[test]
 fn join_values(rt: HostRuntime) -> Result<(), Fail> {
     for (text, value) in VALUES {
-        join_value(&rt, text, &LINKS, value)?;
+        join(&rt, text, &LINKS, Ok(value))?;
     }
-    join_value(&rt, b"not false", &[], true)
+    join(&rt, b"not false", &[], Ok(true))
 }
 
 #[test]
 fn join_faults(rt: HostRuntime) -> Result<(), Fail> {
     for (text, place) in FAULTS {
-        join_fault(&rt, text, &LINKS, place)?;
+        join(&rt, text, &LINKS, Err(Fault { place }))?;
     }
-    join_fault(&rt, b"true or L0", &[], 8)
+    join(&rt, b"true or L0", &[], Err(Fault { place: 8 }))
 }

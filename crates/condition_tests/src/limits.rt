@@ -1,8 +1,9 @@
 //! Texts of 60 bytes, the most that there are, and of 61.
 
-use crate::expected::{join_fault, transition_fault, transition_value};
+use crate::expected::{join, text, transition};
 use conditions::text::Text;
 use std::test::Fail;
+use tokens::fault::Fault;
 
 const TRUE: [&[u8; 60]; 5] = [
     b"((((((((((((((((((((((((((((true))))))))))))))))))))))))))))",
@@ -72,20 +73,18 @@ const TOO_LONG: &[u8; 61] = b"true                                              
 #[test]
 fn sixty_bytes(rt: HostRuntime) -> Result<(), Fail> {
     for text in TRUE {
-        transition_value(&rt, text, true)?;
+        transition(&rt, text, Ok(true))?;
     }
     for (text, place) in FAULTS {
-        transition_fault(&rt, text, place)?;
+        transition(&rt, text, Err(Fault { place }))?;
     }
-    join_fault(&rt, LONG_LINK, &[], 0)
+    join(&rt, LONG_LINK, &[], Err(Fault { place: 0 }))
 }
 
 #[test]
 fn lengths(rt: HostRuntime) -> Result<(), Fail> {
     assert!(rt; Text::new(TOO_LONG).is_none());
-    let Some(text) = Text::new(LONG_LINK) else {
-        return Err(Fail::new("too long"));
-    };
+    let text = text(LONG_LINK)?;
     let bytes: &[u8] = LONG_LINK;
     assert_eq!(rt; text.as_bytes(), bytes);
     Ok(())

@@ -1,4 +1,4 @@
-use crate::expected::transition_fault;
+use crate::expected::transition_faults;
 use std::test::Fail;
 
 const ENDS_EARLY: [(&[u8], usize); 16] = [
@@ -196,39 +196,20 @@ const BAD_BYTES: [(&[u8], usize); 32] = [
 
 #[test]
 fn faults_at_symbols(rt: HostRuntime) -> Result<(), Fail> {
-    for (text, place) in NO_FACTOR {
-        transition_fault(&rt, text, place)?;
-    }
-    for (text, place) in NO_SIGN {
-        transition_fault(&rt, text, place)?;
-    }
-    for (text, place) in NO_OPERAND {
-        transition_fault(&rt, text, place)?;
-    }
-    for (text, place) in AFTER_FACTOR {
-        transition_fault(&rt, text, place)?;
-    }
-    Ok(())
+    transition_faults(&rt, &NO_FACTOR)?;
+    transition_faults(&rt, &NO_SIGN)?;
+    transition_faults(&rt, &NO_OPERAND)?;
+    transition_faults(&rt, &AFTER_FACTOR)
 }
 
 #[test]
 fn faults_at_bad_tokens(rt: HostRuntime) -> Result<(), Fail> {
-    for (text, place) in BAD_WORDS {
-        transition_fault(&rt, text, place)?;
-    }
-    for (text, place) in BAD_NUMBERS {
-        transition_fault(&rt, text, place)?;
-    }
-    for (text, place) in BAD_BYTES {
-        transition_fault(&rt, text, place)?;
-    }
-    Ok(())
+    transition_faults(&rt, &BAD_WORDS)?;
+    transition_faults(&rt, &BAD_NUMBERS)?;
+    transition_faults(&rt, &BAD_BYTES)
 }
 
 #[test]
 fn faults_at_the_end(rt: HostRuntime) -> Result<(), Fail> {
-    for (text, place) in ENDS_EARLY {
-        transition_fault(&rt, text, place)?;
-    }
-    Ok(())
+    transition_faults(&rt, &ENDS_EARLY)
 }

@@ -1,4 +1,4 @@
-use crate::expected::transition_value;
+use crate::expected::transition_values;
 use std::test::Fail;
 
 /// Each sign between a smaller, an equal and a greater number.
@@ -107,22 +107,12 @@ const CONNECTIVES: [(&[u8], bool); 29] = [
 
 #[test]
 fn comparisons(rt: HostRuntime) -> Result<(), Fail> {
-    for (text, value) in SIGNS {
-        transition_value(&rt, text, value)?;
-    }
-    for (text, value) in OPERANDS {
-        transition_value(&rt, text, value)?;
-    }
-    Ok(())
+    transition_values(&rt, &SIGNS)?;
+    transition_values(&rt, &OPERANDS)
 }
 
 #[test]
 fn blanks_and_connectives(rt: HostRuntime) -> Result<(), Fail> {
-    for (text, value) in BLANKS {
-        transition_value(&rt, text, value)?;
-    }
-    for (text, value) in CONNECTIVES {
-        transition_value(&rt, text, value)?;
-    }
-    Ok(())
+    transition_values(&rt, &BLANKS)?;
+    transition_values(&rt, &CONNECTIVES)
 }

@@ -1,11 +1,10 @@
 -- The steps of reading conditions, terms and factors.
-use Rattle.std.proofs.Common.{◌≡◌, ℕ, Bool, true, List, [], ◌∷◌, length, Some, None, Ok, Err, Option, Result, sym, refl, ap, ◌∙◌, subst, inl, inr, arith}
+use Rattle.std.proofs.Common.{◌≡◌, ℕ, Bool, List, [], ◌∷◌, length, Some, None, Ok, Err, Option, Result, sym, refl, ap, ◌∙◌, subst, inl, inr, arith}
 use mathlib.Core.Path.{subst⁻¹}
-use Rattle.std.proofs.lemmas.Bool.{false≢true}
 use Rattle.grammar.specs.Symbols as g
 use Rattle.grammar.specs.Grammar.{Kind, Level, Test, condition, factor}
 use Rattle.grammar.specs.Faults.{Located}
-use Rattle.grammar.specs.Parsing.{Done, Failed, place_of, want, dead, step, heads, is_or, is_and, is_closing}
+use Rattle.grammar.specs.Parsing.{Done, Failed, place_of, want, dead, step, heads, is_closing}
 use Rattle.grammar.proofs.Joins.{Barred, none_fails, close_fails, parentheses_done}
 use Rattle.tokens.specs.declared.fault.Fault.{Fault}
 use Rattle.tokens.specs.declared.symbol.Symbol.{Symbol}
@@ -14,17 +13,17 @@ use Rattle.tokens.specs.declared.symbol.Operand as operands
 use Rattle.tokens.specs.Symbols.{meaning}
 use Rattle.tokens.specs.Following.{to_come}
 use Rattle.conditions.specs.declared.parser.Parser.{Parser}
-use Rattle.conditions.specs.declared.ground.Ground.{Ground}
 use Rattle.conditions.specs.Truths.{Truth}
 use Rattle.conditions.specs.Values.{value, kind_of, tests_of}
-use Rattle.conditions.specs.Steps.{Kept, Ready, ReadyBy, rest, rest_by, headed, end_of, Read, ParsedFrom, Closed}
-use Rattle.conditions.proofs.Parts.{bad_follows}
+use Rattle.conditions.specs.Steps.{Kept, Ready, ReadyBy, rest, rest_by, headed, end_of, Read, ParsedFrom, ClosedBy}
+use Rattle.conditions.proofs.Parts.{bad_follows, failed_over, read_over}
 
 -- what was said over the ground and the text of one is said of the other
-pub from_kept : {p q : Parser} (l : Level) (before : List Located) (r : Result Truth Fault) (s : Parser) → Kept p q → ParsedFrom (kind_of q.ground) (tests_of q.ground) l (end_of q) before r s → ParsedFrom (kind_of p.ground) (tests_of p.ground) l (end_of p) before r s
-from_kept {p} {q} l before r s k h =
-    subst (λ (x : Ground). ParsedFrom (kind_of x) (tests_of x) l (end_of p) before r s) k.ground_is
-    (subst (λ n. ParsedFrom (kind_of q.ground) (tests_of q.ground) l n before r s) (ap length k.text_is) h)
+pub failed_kept : {p q : Parser} {l : Level} {before : List Located} {at : ℕ} → Kept p q → Failed (kind_of q.ground) l (end_of q) before at → Failed (kind_of p.ground) l (end_of p) before at
+failed_kept {p} {q} {l} {before} {at} k h = failed_over (sym k.ground_is) (subst (λ n. Failed (kind_of q.ground) l n before at) (ap length k.text_is) h)
+
+pub read_kept : {p q : Parser} {l : Level} {before : List Located} {v : Truth} {s : Parser} → Kept p q → Read (kind_of q.ground) (tests_of q.ground) l before v s → Read (kind_of p.ground) (tests_of p.ground) l before v s
+read_kept k h = read_over (sym k.ground_is) h
 
 -- the symbol ahead heads the rest
 heads_by : (f : g.Symbol → Bool) (end place : ℕ) (o : Option Symbol) (after : List Located) → ReadyBy end place o after → heads f (rest_by place o after) ≡ headed f o
@@ -34,54 +33,9 @@ heads_by f end place (Some s) after h = refl
 pub heads_ahead : (f : g.Symbol → Bool) (p : Parser) → Ready p → heads f (rest p) ≡ headed f p.ahead.symbol
 heads_ahead f p h = heads_by f (end_of p) p.ahead.place p.ahead.symbol (to_come p.lexer) h
 
-is_or_only : (s : g.Symbol) → is_or s ≡ true → s ≡ g.or_word
-is_or_only g.or_word e = refl
-is_or_only g.and_word e = absurd (false≢true e)
-is_or_only g.not_word e = absurd (false≢true e)
-is_or_only (g.truth_word b) e = absurd (false≢true e)
-is_or_only g.opening e = absurd (false≢true e)
-is_or_only g.closing e = absurd (false≢true e)
-is_or_only (g.operand x) e = absurd (false≢true e)
-is_or_only (g.sign c) e = absurd (false≢true e)
-is_or_only (g.link_word n) e = absurd (false≢true e)
-is_or_only g.bad e = absurd (false≢true e)
-
-is_and_only : (s : g.Symbol) → is_and s ≡ true → s ≡ g.and_word
-is_and_only g.or_word e = absurd (false≢true e)
-is_and_only g.and_word e = refl
-is_and_only g.not_word e = absurd (false≢true e)
-is_and_only (g.truth_word b) e = absurd (false≢true e)
-is_and_only g.opening e = absurd (false≢true e)
-is_and_only g.closing e = absurd (false≢true e)
-is_and_only (g.operand x) e = absurd (false≢true e)
-is_and_only (g.sign c) e = absurd (false≢true e)
-is_and_only (g.link_word n) e = absurd (false≢true e)
-is_and_only g.bad e = absurd (false≢true e)
-
-is_closing_only : (s : g.Symbol) → is_closing s ≡ true → s ≡ g.closing
-is_closing_only g.or_word e = absurd (false≢true e)
-is_closing_only g.and_word e = absurd (false≢true e)
-is_closing_only g.not_word e = absurd (false≢true e)
-is_closing_only (g.truth_word b) e = absurd (false≢true e)
-is_closing_only g.opening e = absurd (false≢true e)
-is_closing_only g.closing e = refl
-is_closing_only (g.operand x) e = absurd (false≢true e)
-is_closing_only (g.sign c) e = absurd (false≢true e)
-is_closing_only (g.link_word n) e = absurd (false≢true e)
-is_closing_only g.bad e = absurd (false≢true e)
-
-ahead_by : (f : g.Symbol → Bool) (x : g.Symbol) → ((s : g.Symbol) → f s ≡ true → s ≡ x) → (place : ℕ) (o : Option Symbol) (after : List Located) → headed f o ≡ true → rest_by place o after ≡ (place, x) ∷ after
-ahead_by f x only place None after e = absurd (false≢true e)
-ahead_by f x only place (Some s) after e = ap (λ y. (place, y) ∷ after) (only (meaning s) e)
-
-pub ahead_or : (p : Parser) → headed is_or p.ahead.symbol ≡ true → rest p ≡ (p.ahead.place, g.or_word) ∷ to_come p.lexer
-ahead_or p e = ahead_by is_or g.or_word is_or_only p.ahead.place p.ahead.symbol (to_come p.lexer) e
-
-pub ahead_and : (p : Parser) → headed is_and p.ahead.symbol ≡ true → rest p ≡ (p.ahead.place, g.and_word) ∷ to_come p.lexer
-ahead_and p e = ahead_by is_and g.and_word is_and_only p.ahead.place p.ahead.symbol (to_come p.lexer) e
-
-ahead_close : (p : Parser) → headed is_closing p.ahead.symbol ≡ true → rest p ≡ (p.ahead.place, g.closing) ∷ to_come p.lexer
-ahead_close p e = ahead_by is_closing g.closing is_closing_only p.ahead.place p.ahead.symbol (to_come p.lexer) e
+-- a symbol ahead is the first of the rest
+pub ahead_is : (p : Parser) (s : Symbol) → p.ahead.symbol ≡ Some s → rest p ≡ (p.ahead.place, meaning s) ∷ to_come p.lexer
+ahead_is p s e = ap (λ o. rest_by p.ahead.place o (to_come p.lexer)) e
 
 place_by : (end place : ℕ) (o : Option Symbol) (after : List Located) → ReadyBy end place o after → place ≡ place_of end (rest_by place o after)
 place_by end place None after h = h.1 ∙ ap (place_of end) (sym h.0)
@@ -111,12 +65,12 @@ stuck_end {k} {end} e h = none_fails (subst⁻¹ (Barred k want) e tt) (h ∙ sy
 
 -- after the condition in parentheses: the parenthesis and what follows it
 pub closes : {k : Kind} {tests : Test → Truth} {end : ℕ} {before mid : List Located} {place : ℕ} (q : Parser) (v : Truth) (r : Result Truth Fault) (s : Parser) →
-    before ≡ (place, g.opening) ∷ mid → end_of q ≡ end → Read k tests condition mid v q → Closed q v r s → ParsedFrom k tests factor end before r s
+    before ≡ (place, g.opening) ∷ mid → end_of q ≡ end → Read k tests condition mid v q → ClosedBy q v r s → ParsedFrom k tests factor end before r s
 closes {k} {tests} {end} {before} {mid} q v (Ok w) s e same d c =
     record {
-      done = parentheses_done e (subst⁻¹ (λ x. Done k condition (λ t. x ≡ value tests t) mid (rest q)) c.0 d.done) (ahead_close q c.1 ∙ ap (λ ts. (q.ahead.place, g.closing) ∷ ts) (sym c.2.0));
+      done = parentheses_done e (subst⁻¹ (λ x. Done k condition (λ t. x ≡ value tests t) mid (rest q)) c.0 d.done) (ahead_is q Close c.1 ∙ ap (λ ts. (q.ahead.place, g.closing) ∷ ts) (sym c.2.0));
       ready = c.2.1;
       shorter = omega (arith, c.2.2, d.shorter, ap length e);
     }
 closes {k} {tests} {end} {before} {mid} q v (Err f) s e same d (inl c) = close_fails e d.done (heads_ahead is_closing q d.ready ∙ c.0) (c.1 ∙ place_ahead q d.ready ∙ ap (λ n. place_of n (rest q)) same)
-closes {k} {tests} {end} {before} {mid} q v (Err f) s e same d (inr c) = bad_follows (parentheses_done e d.done (ahead_close q c.0)) c.1
+closes {k} {tests} {end} {before} {mid} q v (Err f) s e same d (inr c) = bad_follows (parentheses_done e d.done (ahead_is q Close c.0)) c.1

@@ -6,11 +6,13 @@ use Rattle.grammar.specs.Faults.{Located}
 use Rattle.grammar.specs.Parsing.{Done, Failed, is_closing}
 use Rattle.tokens.specs.declared.fault.Fault.{Fault}
 use Rattle.tokens.specs.declared.symbol.Symbol.{Symbol}
+use Rattle.tokens.specs.declared.symbol.Symbol.TheVariants.{Close}
 use Rattle.tokens.specs.Following.{text_of, to_come}
 use Rattle.tokens.specs.Symbols.{meaning, side}
 use Rattle.tokens.specs.declared.symbol.Operand.{Operand}
 use Rattle.values.specs.declared.amount.Comparison.{Comparison}
 use Rattle.grammar.specs.Symbols as g
+use Rattle.conditions.specs.declared.ground.Ground.{Ground}
 use Rattle.conditions.specs.declared.ground.Incoming.{Incoming}
 use Rattle.conditions.specs.declared.parser.Parser.{Parser}
 use Rattle.conditions.specs.Truths.{Truth}
@@ -43,9 +45,17 @@ pub record Kept (p q : Parser) : Type 0 where
   pub text_is : text_of q.lexer ≡ text_of p.lexer
   pub ground_is : q.ground ≡ p.ground
 
+-- what is said of a step of the parser, which leaves its text and its ground as they are
+pub record Step (p q : Parser) (Said : Type 0) : Type 0 where
+  pub kept : Kept p q
+  pub says : Said
+
+abbrev pub TookNext : Parser → Result (Unit {0}) Fault → Parser → Type 0
+TookNext p (Ok u) q = (rest q ≡ to_come p.lexer) × Ready q × (length (to_come q.lexer) ≤ length (to_come p.lexer))
+TookNext p (Err f) q = to_come p.lexer ≡ (f.place, bad) ∷ to_come q.lexer
+
 abbrev pub Advanced : Parser → Result (Unit {0}) Fault → Parser → Type 0
-Advanced p (Ok u) q = (rest q ≡ to_come p.lexer) × Ready q × (length (to_come q.lexer) ≤ length (to_come p.lexer))
-Advanced p (Err f) q = to_come p.lexer ≡ (f.place, bad) ∷ to_come q.lexer
+Advanced p r q = Step p q (TookNext p r q)
 
 -- a part of this level was read from before, or it stops there
 pub record Read (k : Kind) (tests : Test → Truth) (l : Level) (before : List Located) (v : Truth) (q : Parser) : Type 0 where
@@ -58,12 +68,22 @@ ParsedFrom k tests l end before (Ok v) q = Read k tests l before v q
 ParsedFrom k tests l end before (Err f) q = Failed k l end before f.place
 
 abbrev pub Parsed : Level → Parser → Result Truth Fault → Parser → Type 0
-Parsed l p r q = ParsedFrom (kind_of p.ground) (tests_of p.ground) l (end_of p) (to_come p.lexer) r q
+Parsed l p r q = Step p q (ParsedFrom (kind_of p.ground) (tests_of p.ground) l (end_of p) (to_come p.lexer) r q)
+
+-- a new parser has the whole text before it
+pub record Begun (text : List ℕ) (ground : Ground) (p : Parser) : Type 0 where
+  pub text_is : text_of p.lexer ≡ text
+  pub place_is : p.lexer.place ≡ 0
+  pub ground_is : p.ground ≡ ground
+
+-- the status of a link that is among some, or none
+abbrev pub StatusIs : Bool → Bool → Option Bool → Type 0
+StatusIs among status None = among ≡ false
+StatusIs among status (Some b) = (among ≡ true) × (b ≡ status)
 
 -- the status of an incoming link
 abbrev pub Looks : List Incoming → ℕ → Option Bool → Type 0
-Looks ls n None = member n (links_of ls) ≡ false
-Looks ls n (Some b) = (member n (links_of ls) ≡ true) × (b ≡ status_of ls n)
+Looks ls n o = StatusIs (member n (links_of ls)) (status_of ls n) o
 
 abbrev pub SignIs : Symbol → Option Comparison → Type 0
 SignIs s None = (c : Comparison) → meaning s ≢ g.sign c
@@ -73,34 +93,30 @@ abbrev pub OperandIs : Symbol → Option Operand → Type 0
 OperandIs s None = (x : g.Operand) → meaning s ≢ g.operand x
 OperandIs s (Some x) = meaning s ≡ g.operand (side x)
 
--- what comes first at this place is no symbol of this sort, or the end
-abbrev pub NotFirst : (Spoken → Type 0) → ℕ → List Located → ℕ → Type 0
-NotFirst is end [] place = place ≡ end
-NotFirst is end (t ∷ ts) place = (place ≡ t.0) × (is t.1 → ⊥)
+-- what comes first at this place is bad or nothing by a reading of symbols, or it is the end
+abbrev pub Unread : {X : Type 0} → (Symbol → Option X → Type 0) → ℕ → List Located → ℕ → Type 0
+Unread reads end [] place = place ≡ end
+Unread reads end (t ∷ ts) place = (place ≡ t.0) × ((t.1 ≡ bad) ⊎ ((s : Symbol) × (t.1 ≡ meaning s) × reads s None))
 
-abbrev pub IsSign : Spoken → Type 0
-IsSign s = (c : Comparison) × (s ≡ g.sign c)
+-- the next symbol was read as this, or it cannot be
+abbrev pub NextBy : {X : Type 0} → (Symbol → Option X → Type 0) → Parser → Result X Fault → Parser → Type 0
+NextBy reads p (Ok x) q = (at : ℕ) × (s : Symbol) × (to_come p.lexer ≡ (at, meaning s) ∷ to_come q.lexer) × reads s (Some x)
+NextBy reads p (Err f) q = Unread reads (end_of p) (to_come p.lexer) f.place
 
-abbrev pub IsOperand : Spoken → Type 0
-IsOperand s = (x : g.Operand) × (s ≡ g.operand x)
-
--- a sign was read, or none comes
-abbrev pub Signs : Parser → Result Comparison Fault → Parser → Type 0
-Signs p (Ok c) q = (at : ℕ) × (to_come p.lexer ≡ (at, g.sign c) ∷ to_come q.lexer)
-Signs p (Err f) q = NotFirst IsSign (end_of p) (to_come p.lexer) f.place
-
-abbrev pub Operands : Parser → Result Operand Fault → Parser → Type 0
-Operands p (Ok x) q = (at : ℕ) × (to_come p.lexer ≡ (at, g.operand (side x)) ∷ to_come q.lexer)
-Operands p (Err f) q = NotFirst IsOperand (end_of p) (to_come p.lexer) f.place
+abbrev pub NextIs : {X : Type 0} → (Symbol → Option X → Type 0) → Parser → Result X Fault → Parser → Type 0
+NextIs reads p r q = Step p q (NextBy reads p r q)
 
 -- a factor whose first symbol was read at this place
 abbrev pub ParsedAt : Parser → ℕ → Spoken → Result Truth Fault → Parser → Type 0
-ParsedAt p at s r q = ParsedFrom (kind_of p.ground) (tests_of p.ground) factor (end_of p) ((at, s) ∷ to_come p.lexer) r q
+ParsedAt p at s r q = Step p q (ParsedFrom (kind_of p.ground) (tests_of p.ground) factor (end_of p) ((at, s) ∷ to_come p.lexer) r q)
 
 -- a parenthesis was ahead and what follows it is ahead now, or it stops at what is ahead, or after it
+abbrev pub ClosedBy : Parser → Truth → Result Truth Fault → Parser → Type 0
+ClosedBy p v (Ok w) q = (w ≡ v) × (p.ahead.symbol ≡ Some Close) × TookNext p (Ok tt) q
+ClosedBy p v (Err f) q = ((headed is_closing p.ahead.symbol ≡ false) × (f.place ≡ p.ahead.place)) ⊎ ((p.ahead.symbol ≡ Some Close) × TookNext p (Err f) q)
+
 abbrev pub Closed : Parser → Truth → Result Truth Fault → Parser → Type 0
-Closed p v (Ok w) q = (w ≡ v) × (headed is_closing p.ahead.symbol ≡ true) × Advanced p (Ok tt) q
-Closed p v (Err f) q = ((headed is_closing p.ahead.symbol ≡ false) × (f.place ≡ p.ahead.place)) ⊎ ((headed is_closing p.ahead.symbol ≡ true) × Advanced p (Err f) q)
+Closed p v r q = Step p q (ClosedBy p v r q)
 
 abbrev pub Ended : Parser → Result (Unit {0}) Fault → Type 0
 Ended p (Ok u) = p.ahead.symbol ≡ None

@@ -1,5 +1,6 @@
 -- Condition texts: their readings, their faults, and what checking and weighing them answer.
-use Rattle.std.specs.Prelude.{◌≡◌, ℕ, Bool, List, length, take, Ok, Err, Result}
+use Rattle.std.specs.Prelude.{◌≡◌, ℕ, Bool, List, length, Ok, Err, Result}
+use Rattle.lists.specs.Lists.{items}
 use Rattle.grammar.specs.Grammar.{Kind, Test, Tree, condition, Reads}
 use Rattle.grammar.specs.Faults.{FaultAt, symbols}
 use Rattle.tokens.specs.declared.fault.Fault.{Fault}
@@ -9,7 +10,7 @@ use Rattle.conditions.specs.Truths.{Truth, holds}
 use Rattle.conditions.specs.Values.{value}
 
 abbrev pub text_bytes : Text → List ℕ
-text_bytes t = take t.length t.bytes
+text_bytes t = items t.bytes
 
 -- these bytes read as this tree
 abbrev pub Reading : Kind → List ℕ → Tree → Type 0

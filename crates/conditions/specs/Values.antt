@@ -5,8 +5,7 @@ use Rattle.values.specs.Layout.{field_at}
 use Rattle.grammar.specs.Symbols.{Operand, field, number}
 use Rattle.grammar.specs.Grammar.{Kind, transition, join, Test, compares, status, Tree, constant, test, negation, conjunction, disjunction}
 use Rattle.conditions.specs.declared.ground.Ground.{Ground}
-use Rattle.conditions.specs.declared.ground.Kind as Kinds
-use Rattle.conditions.specs.declared.ground.Kind.TheVariants as kinds
+use Rattle.conditions.specs.declared.ground.Ground.TheVariants as grounds
 use Rattle.conditions.specs.declared.ground.Incoming.{Incoming}
 use Rattle.conditions.specs.Truths.{Truth, of_bool, negated, both, either, amount_of, compared}
 
@@ -41,16 +40,10 @@ over_statuses ls (status n) = of_bool (status_of ls n)
 abbrev pub links_of : List Incoming → List ℕ
 links_of ls = map (λ (l : Incoming). l.link) ls
 
-abbrev pub kind_by : Kinds.Kind → List Incoming → Kind
-kind_by kinds.Transition ls = transition
-kind_by kinds.Join ls = join (links_of ls)
-
 abbrev pub kind_of : Ground → Kind
-kind_of g = kind_by g.kind g.incoming.now
-
-abbrev pub tests_by : Kinds.Kind → Container → List Incoming → Test → Truth
-tests_by kinds.Transition c ls = over_output c
-tests_by kinds.Join c ls = over_statuses ls
+kind_of (grounds.Transition c) = transition
+kind_of (grounds.Join ls) = join (links_of ls.now)
 
 abbrev pub tests_of : Ground → Test → Truth
-tests_of g = tests_by g.kind g.output g.incoming.now
+tests_of (grounds.Transition c) = over_output c
+tests_of (grounds.Join ls) = over_statuses ls.now

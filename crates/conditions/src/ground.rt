@@ -7,18 +7,11 @@ pub struct Incoming {
     pub status: bool,
 }
 
-/// The text of a link, or the join text of an activity.
-#[derive(Clone, Copy)]
-pub enum Kind {
-    Transition,
-    Join,
-}
-
-/// What the tests of a text are weighed over: a transition text over the output of the link's source,
-/// a join text over the activity's incoming links with their statuses.
-#[derive(Clone, Copy)]
-pub struct Ground<'a> {
-    pub kind: Kind,
-    pub output: Container,
-    pub incoming: &'a [Incoming],
+/// What the tests of a text are weighed over.
+#[derive(Clone, Copy, PartialEq, Eq, Debug)]
+pub enum Ground<'a> {
+    /// Those of a transition text over the output of the link's source.
+    Transition(Container),
+    /// Those of a join text over the activity's incoming links with their statuses.
+    Join(&'a [Incoming]),
 }

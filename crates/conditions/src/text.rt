@@ -1,4 +1,4 @@
-ghost use Rattle.std.specs.Prelude.{◌≡◌, ◌≤◌, length as count};
+use lists::BoundedList;
 
 pub mod bytes;
 pub mod weighing;
@@ -6,8 +6,5 @@ pub mod weighing;
 /// The bytes of a condition text: at most 60.
 #[derive(Clone, Copy)]
 pub struct Text {
-    bytes: [u8; 60],
-    length: usize,
-    ghost within: { length ≤ 60 },
-    ghost places: { count bytes ≡ 60 },
+    bytes: BoundedList<u8, 60>,
 }

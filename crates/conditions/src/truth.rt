@@ -44,10 +44,7 @@ pub(crate) fn is_true(value: Truth) -> bool
 pub(crate) fn compare(left: Field, sign: Comparison, right: Field) -> Truth
     ensures { result ≡ compared sign (amount_of left) (amount_of right) }
 {
-    let Field::Number(a) = left else {
-        return false;
-    };
-    let Field::Number(b) = right else {
+    let (Field::Number(a), Field::Number(b)) = (left, right) else {
         return false;
     };
     constant(a.compares(sign, b))

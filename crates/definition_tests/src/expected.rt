@@ -2,6 +2,8 @@ use crate::bytes::{Edit, edited};
 use crate::loan;
 use conditions::text::Text;
 use flows::flow::Flow;
+use refusals::Refusal;
+use std::alloc::AllocGlobal;
 use std::process::Abort;
 use std::test::Fail;
 
@@ -15,13 +17,9 @@ pub(crate) fn flow_of(bytes: &[u8]) -> Result<Flow, Fail> {
 }
 
 pub(crate) fn is_text(rt: &impl Abort, found: Option<Text>, bytes: &[u8]) -> Result<(), Fail> {
-    match found {
-        Some(text) => {
-            assert_eq!(rt; text.as_bytes(), bytes);
-            Ok(())
-        },
-        None => Err(Fail::new("no text")),
-    }
+    let text = found.ok_or("no text")?;
+    assert_eq!(rt; text.as_bytes(), bytes);
+    Ok(())
 }
 
 /// A flow has so many activities, links and connectors, and as many texts as links and activities.
@@ -68,19 +66,23 @@ pub(crate) fn is_the_loan(rt: &impl Abort, flow: &Flow) -> Result<(), Fail> {
 }
 
 /// The bytes with these edits are refused so, and a flow that was the loan still is.
-pub(crate) fn is_refused(rt: &impl Abort, bytes: &[u8], damage: &Damage) -> Result<(), Fail> {
+pub(crate) fn is_refused(
+    rt: &(impl Abort + AllocGlobal),
+    bytes: &[u8],
+    damage: &Damage,
+) -> Result<(), Fail> {
     let (edits, cause, place) = *damage;
-    let damaged = edited(bytes, edits)?;
+    let damaged = edited(rt.alloc(), bytes, edits)?;
     let mut flow = flow_of(loan::BYTES)?;
-    match flow.read(damaged.as_slice()) {
-        Ok(()) => return Err(Fail::new(format_args!("accepted, and not {cause} at {place}"))),
-        Err(refusal) => assert_eq!(rt; (refusal.cause(), refusal.place()), (cause, place)),
-    }
+    let Err(refusal) = flow.read(&damaged) else {
+        return Err(Fail::new(format_args!("accepted, and not {cause} at {place}")));
+    };
+    assert_eq!(rt; (refusal.cause(), refusal.place()), (cause, place));
     is_the_loan(rt, &flow)
 }
 
 /// Each of these damages of the loan is refused as it says.
-pub(crate) fn are_refused(rt: &impl Abort, damages: &[Damage]) -> Result<(), Fail> {
+pub(crate) fn are_refused(rt: &(impl Abort + AllocGlobal), damages: &[Damage]) -> Result<(), Fail> {
     for damage in damages {
         is_refused(rt, loan::BYTES, damage)?;
     }

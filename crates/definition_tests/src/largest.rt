@@ -1,9 +1,9 @@
 //! The largest definition: 32 activities, 128 links, 256 connectors, and 160 texts of 60 bytes.
 
-use crate::bytes::Bytes;
 use crate::expected::{Damage, flow_of, has_counts, is_refused, is_text};
 use flows::flow::Flow;
 use parts::{Activity, Connector, Link};
+use std::alloc::{AllocError, Global};
 use std::process::Abort;
 use std::test::Fail;
 
@@ -18,62 +18,60 @@ const JOIN_OF_9: &[u8; 61] = b"\x3cL9 or L40 or L70 or L99 or L127              
 
 const ALWAYS: &[u8; 61] = b"\x3c                                                        true";
 
-fn put_activities(made: &mut Bytes) -> Result<(), Fail> {
-    made.put(b"\x20\x00")?;
+fn put_activities(made: &mut Vec<u8>) -> Result<(), AllocError> {
+    made.extend_from_slice(b"\x20\x00")?;
     for number in 0..32u8 {
-        made.put(&[number, 255, 255 - number, 0])?;
+        made.extend_from_slice(&[number, 255, 255 - number, 0])?;
     }
     Ok(())
 }
 
-/// Links to activities 0, 1, 2 and so on, each from the activity that is so far above.
-fn put_links_over(made: &mut Bytes, distance: u8, count: u8) -> Result<(), Fail> {
-    for target in 0..count {
-        made.put(&[target.saturating_add(distance), target])?;
-    }
-    Ok(())
-}
+/// How far above its target the source of a link is, and how many such links there are, to activities 0, 1, 2 and so on.
+static DISTANCES: [(u8, u8); 5] = [(1, 31), (2, 30), (3, 29), (4, 28), (5, 10)];
 
-fn put_links(made: &mut Bytes) -> Result<(), Fail> {
-    made.put(b"\x80\x00")?;
-    put_links_over(made, 1, 31)?;
-    put_links_over(made, 2, 30)?;
-    put_links_over(made, 3, 29)?;
-    put_links_over(made, 4, 28)?;
-    put_links_over(made, 5, 10)
-}
-
-/// Every field: of activity 31 from the case, of the others from the output of 31.
-fn put_connectors(made: &mut Bytes) -> Result<(), Fail> {
-    made.put(b"\x00\x01")?;
-    for target in 0..32u8 {
-        let (kind, source) = if target == 31 { (1, 0) } else { (2, 31) };
-        for field in 0..8u8 {
-            made.put(&[target, field, kind, source, 7 - field])?;
+fn put_links(made: &mut Vec<u8>) -> Result<(), AllocError> {
+    made.extend_from_slice(b"\x80\x00")?;
+    for (distance, count) in &DISTANCES {
+        for target in 0..*count {
+            made.extend_from_slice(&[target.saturating_add(*distance), target])?;
         }
     }
     Ok(())
 }
 
-/// So many texts, all alike.
-fn put_alike(made: &mut Bytes, count: u8, text: &[u8]) -> Result<(), Fail> {
-    for _ in 0..count {
-        made.put(text)?;
+/// Every field: of activity 31 from the case, of the others from the output of 31.
+fn put_connectors(made: &mut Vec<u8>) -> Result<(), AllocError> {
+    made.extend_from_slice(b"\x00\x01")?;
+    for target in 0..32u8 {
+        let (kind, source) = if target == 31 { (1, 0) } else { (2, 31) };
+        for field in 0..8u8 {
+            made.extend_from_slice(&[target, field, kind, source, 7 - field])?;
+        }
     }
     Ok(())
 }
 
-fn put_texts(made: &mut Bytes) -> Result<(), Fail> {
-    made.put(b"\xa0\x00")?;
-    put_alike(made, 128, TRANSITION)?;
-    put_alike(made, 1, JOIN_OF_0)?;
-    put_alike(made, 8, ALWAYS)?;
-    put_alike(made, 1, JOIN_OF_9)?;
-    put_alike(made, 22, ALWAYS)
+/// How many texts in a row are alike, and which.
+static TEXTS: [(u8, &[u8]); 5] = [
+    (128, TRANSITION),
+    (1, JOIN_OF_0),
+    (8, ALWAYS),
+    (1, JOIN_OF_9),
+    (22, ALWAYS),
+];
+
+fn put_texts(made: &mut Vec<u8>) -> Result<(), AllocError> {
+    made.extend_from_slice(b"\xa0\x00")?;
+    for (count, text) in &TEXTS {
+        for _ in 0..*count {
+            made.extend_from_slice(text)?;
+        }
+    }
+    Ok(())
 }
 
-fn most() -> Result<Bytes, Fail> {
-    let mut made = Bytes::new();
+fn most(alloc: Global) -> Result<Vec<u8>, AllocError> {
+    let mut made = Vec::new(alloc);
     put_activities(&mut made)?;
     put_links(&mut made)?;
     put_connectors(&mut made)?;
@@ -109,7 +107,7 @@ static FALLING: &[u8; 32] = b"\x1f\x1e\x1d\x1c\x1b\x1a\x19\x18\x17\x16\x15\x14\x
 
 #[test]
 fn is_a_flow(rt: HostRuntime) -> Result<(), Fail> {
-    let flow = flow_of(most()?.as_slice())?;
+    let flow = flow_of(&most(rt.alloc())?)?;
     has_counts(&rt, &flow, 32, 128, 256);
     has_records(&rt, &flow);
     is_text(
@@ -176,9 +174,9 @@ static AT_THE_END: [Damage; 15] = [
 
 #[test]
 fn damaged_at_the_end(rt: HostRuntime) -> Result<(), Fail> {
-    let made = most()?;
+    let made = most(rt.alloc())?;
     for damage in &AT_THE_END {
-        is_refused(&rt, made.as_slice(), damage)?;
+        is_refused(&rt, &made, damage)?;
     }
     Ok(())
 }

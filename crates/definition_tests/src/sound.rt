@@ -128,7 +128,7 @@ static HARMLESS: [(&[Edit], usize, usize); 8] = [
 #[test]
 fn harmless_edits(rt: HostRuntime) -> Result<(), Fail> {
     for (edits, links, connectors) in &HARMLESS {
-        let flow = flow_of(edited(loan::BYTES, edits)?.as_slice())?;
+        let flow = flow_of(&edited(rt.alloc(), loan::BYTES, edits)?)?;
         has_counts(&rt, &flow, 4, *links, *connectors);
     }
     Ok(())

@@ -1,5 +1,4 @@
-pub mod Elements
 pub mod FieldByField
-pub mod Outcomes
+pub mod Places
 pub mod Treating
 pub mod Weighing

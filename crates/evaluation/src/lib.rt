@@ -4,5 +4,4 @@
 
 pub mod evaluated;
 pub mod evaluating;
-mod inputs;
-mod joins;
+mod outcomes;

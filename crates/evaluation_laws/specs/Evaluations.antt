@@ -1,5 +1,5 @@
 -- What activities come to, on a case and under answers.
-use Rattle.std.specs.Prelude.{◌≡◌, ℕ, zero, suc, ◌<◌, Bool, true, false, cond, List, [], ◌∷◌, replicate, ℤ, pos, ◌+ℤ◌, ◌==◌, refl}
+use Rattle.std.specs.Prelude.{◌≡◌, ℕ, zero, suc, ◌<◌, Bool, true, false, cond, List, [], ◌∷◌, replicate, Some, None, Option, ℤ, pos, ◌+ℤ◌, ◌==◌, refl}
 use Rattle.values.specs.declared.container.Container.{Container}
 use Rattle.values.specs.declared.field.Field.{Field}
 use Rattle.values.specs.declared.field.Field.TheVariants.{Blank, Number}
@@ -19,6 +19,12 @@ abbrev pub output_of : Plan → ℕ → Outcome → Container
 output_of p a Skipped = no_output
 output_of p a (Completed c) = c
 output_of p a (Faulted f) = no_output
+
+-- the output of an activity with this outcome, where it completed
+abbrev pub given_output : Outcome → Option Container
+given_output Skipped = None
+given_output (Completed c) = Some c
+given_output (Faulted f) = None
 
 -- what a link takes where its source has this outcome: false, unless the source completed
 abbrev pub taken : Plan → ℕ → Outcome → Bool

@@ -1,4 +1,3 @@
-pub mod Elements
 pub mod OneVerdict
 pub mod Ranked
 pub mod Sizes

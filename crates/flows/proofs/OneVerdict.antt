@@ -1,5 +1,5 @@
 -- No bytes have two verdicts.
-use Rattle.std.proofs.Common.{◌≡◌, ℕ, List, Err, Result, sym, ap, ◌∙◌, subst, arith}
+use Rattle.std.proofs.Common.{◌≡◌, ℕ, List, Err, Result, sym, ap, ◌∙◌, subst}
 use Rattle.layout.specs.Layout.{Parts, WithinLimits, encode}
 use Rattle.layout.specs.Verdicts.{Refused}
 use Rattle.layout.specs.Verdicts as layout
@@ -15,10 +15,7 @@ use Rattle.flows.specs.Verdicts.{accepted, refused, Judged, Defines, Breaks, One
 use Rattle.flows.specs.Flows.{ReadAsWritten}
 
 not_refused : (bs : List ℕ) (p : Parts) (e : LayoutRefusal) → WithinLimits p → bs ≡ encode p → Refused bs e → ⊥
-not_refused bs p e limits written r =
-    let same = laid.one_verdict bs (layout.accepted p) (layout.refused e) (limits, written) r in
-    let z : ◌≡◌ {A = ℕ} 0 1 = cc in
-    omega arith
+not_refused bs p e limits written r = cc (laid.one_verdict bs (layout.accepted p) (layout.refused e) (limits, written) r)
 
 keeps_or_breaks : (bs : List ℕ) (p : Parts) (e : RuleRefusal) → Judged bs (accepted p) → Breaks bs e → ⊥
 keeps_or_breaks bs p e d b =
@@ -39,7 +36,7 @@ one_verdict bs (accepted p) (accepted q) j k = ap accepted (defines_one bs p q j
 one_verdict bs (accepted p) (refused (Layout e)) j k = absurd (not_refused bs p e j.limits j.written k)
 one_verdict bs (accepted p) (refused (Rule e)) j k = absurd (keeps_or_breaks bs p e j k)
 one_verdict bs (refused (Layout d)) (accepted q) j k = absurd (not_refused bs q d k.limits k.written j)
-one_verdict bs (refused (Layout d)) (refused (Layout e)) j k = let same = laid.one_verdict bs (layout.refused d) (layout.refused e) j k in cc
+one_verdict bs (refused (Layout d)) (refused (Layout e)) j k = cc (laid.one_verdict bs (layout.refused d) (layout.refused e) j k)
 one_verdict bs (refused (Layout d)) (refused (Rule e)) j k = absurd (not_refused bs k.parts d k.limits k.written j)
 one_verdict bs (refused (Rule d)) (accepted q) j k = absurd (keeps_or_breaks bs q d k j)
 one_verdict bs (refused (Rule d)) (refused (Layout e)) j k = absurd (not_refused bs j.parts e j.limits j.written k)
@@ -47,8 +44,4 @@ one_verdict bs (refused (Rule d)) (refused (Rule e)) j k = ap (λ x. refused (Ru
 
 -- what is refused defines nothing
 pub none_defined : (bs : List ℕ) (before : Flow) (r : Result (Unit {0}) DefinitionRefusal) (e : DefinitionRefusal) → r ≡ Err e → Judged bs (refused e) → ReadAsWritten bs r before
-none_defined bs before r e is judged p d =
-    let same = one_verdict bs (refused e) (accepted p) judged d in
-    let z : ◌≡◌ {A = ℕ} 0 1 = cc in
-    let no : ⊥ = omega arith in
-    absurd no
+none_defined bs before r e is judged p d = cc (one_verdict bs (refused e) (accepted p) judged d)

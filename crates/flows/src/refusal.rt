@@ -3,6 +3,7 @@ ghost use Rattle.flows.specs.Refusals.{cause_of, place_of};
 ghost use Rattle.flows.specs.declared.refusal.DefinitionRefusal.TheVariants.{Layout, Rule};
 
 use layout::LayoutRefusal;
+use refusals::Refusal;
 use rules::RuleRefusal;
 
 /// Why bytes are no definition.
@@ -14,19 +15,19 @@ pub enum DefinitionRefusal {
     Rule(RuleRefusal),
 }
 
-impl DefinitionRefusal {
-    pub fn cause(&self) -> u16
-        ensures { result ≡ cause_of self.now }
-    {
+impl Refusal for DefinitionRefusal {
+    ghost cause_number = { cause_of };
+
+    ghost place_number = { place_of };
+
+    fn cause(&self) -> u16 {
         match self {
             DefinitionRefusal::Layout(refusal) => refusal.cause(),
             DefinitionRefusal::Rule(refusal) => refusal.cause(),
         }
     }
 
-    pub fn place(&self) -> usize
-        ensures { result ≡ place_of self.now }
-    {
+    fn place(&self) -> usize {
         match self {
             DefinitionRefusal::Layout(refusal) => refusal.place(),
             DefinitionRefusal::Rule(refusal) => refusal.place(),

@@ -5,7 +5,7 @@ use Rattle.std.proofs.lemmas.List.{map-append}
 use Rattle.std.proofs.lemmas.Bool.{true≢false, both_ways}
 use Rattle.values.specs.declared.amount.Comparison.{Comparison}
 use Rattle.values.specs.declared.amount.Comparison.TheVariants.{Equal}
-use Rattle.grammar.specs.Symbols.{Operand, Symbol, or_word, and_word, not_word, truth_word, opening, closing, operand, sign, link_word, bad}
+use Rattle.grammar.specs.Symbols.{Operand, Symbol, or_word, and_word, not_word, truth_word, opening, closing, operand, sign, link_word}
 use Rattle.grammar.specs.Grammar.{Kind, transition, join, member, compares, status, Tree, constant, test, negation, conjunction, disjunction, Level, condition, term, factor, Reads, one_term, or_term, one_factor, and_factor, of_not, of_parentheses, of_truth, of_comparison, of_link}
 use Rattle.grammar.specs.Faults.{Located, symbols}
 use Rattle.grammar.specs.Parsing.{place_of, State, want, want_sign, want_operand, have, dead, closes, operand_first, link_first, step, feed, Pending, Stops, is_or, is_and, is_closing, heads, Ends, Done, Failed}
@@ -18,52 +18,22 @@ symbols_append xs ys = map-append (λ (t : Located). t.1) xs ys
 
 pub not_or : (s : Symbol) → (s ≡ or_word → ⊥) → is_or s ≡ false
 not_or or_word h = absurd (h refl)
-not_or and_word h = refl
-not_or not_word h = refl
-not_or (truth_word b) h = refl
-not_or opening h = refl
-not_or closing h = refl
-not_or (operand x) h = refl
-not_or (sign c) h = refl
-not_or (link_word n) h = refl
-not_or bad h = refl
+not_or _ h = refl
 
 pub not_and : (s : Symbol) → (s ≡ and_word → ⊥) → is_and s ≡ false
-not_and or_word h = refl
 not_and and_word h = absurd (h refl)
-not_and not_word h = refl
-not_and (truth_word b) h = refl
-not_and opening h = refl
-not_and closing h = refl
-not_and (operand x) h = refl
-not_and (sign c) h = refl
-not_and (link_word n) h = refl
-not_and bad h = refl
+not_and _ h = refl
 
 pub not_closing : (s : Symbol) → (s ≡ closing → ⊥) → is_closing s ≡ false
-not_closing or_word h = refl
-not_closing and_word h = refl
-not_closing not_word h = refl
-not_closing (truth_word b) h = refl
-not_closing opening h = refl
 not_closing closing h = absurd (h refl)
-not_closing (operand x) h = refl
-not_closing (sign c) h = refl
-not_closing (link_word n) h = refl
-not_closing bad h = refl
+not_closing _ h = refl
 
 -- after a factor comes and, or, or a closing inside parentheses
 after_factor : (k : Kind) (d : ℕ) (s : Symbol) → is_and s ≡ false → is_or s ≡ false → (is_closing s ≡ true → closes d ≡ dead) → step k (have d) s ≡ dead
 after_factor k d or_word a o c = absurd (true≢false o)
 after_factor k d and_word a o c = absurd (true≢false a)
-after_factor k d not_word a o c = refl
-after_factor k d (truth_word b) a o c = refl
-after_factor k d opening a o c = refl
 after_factor k d closing a o c = c refl
-after_factor k d (operand x) a o c = refl
-after_factor k d (sign x) a o c = refl
-after_factor k d (link_word n) a o c = refl
-after_factor k d bad a o c = refl
+after_factor k d _ a o c = refl
 
 pub barred : (k : Kind) (s : Symbol) → is_and s ≡ false → is_or s ≡ false → is_closing s ≡ false → (d : ℕ) → step k (have d) s ≡ dead
 barred k s a o c d = after_factor k d s a o (λ e. absurd (both_ways (is_closing s) c e))
@@ -73,41 +43,21 @@ pub barred_outside : (k : Kind) (s : Symbol) → is_and s ≡ false → is_or s 
 barred_outside k s a o = after_factor k 0 s a o (λ e. refl)
 
 pub no_sign : (k : Kind) (s : Symbol) → ((c : Comparison) → s ≡ sign c → ⊥) → (d : ℕ) → step k (want_sign d) s ≡ dead
-no_sign k or_word h d = refl
-no_sign k and_word h d = refl
-no_sign k not_word h d = refl
-no_sign k (truth_word b) h d = refl
-no_sign k opening h d = refl
-no_sign k closing h d = refl
-no_sign k (operand x) h d = refl
 no_sign k (sign c) h d = absurd (h c refl)
-no_sign k (link_word n) h d = refl
-no_sign k bad h d = refl
+no_sign k _ h d = refl
 
 pub no_operand : (k : Kind) (s : Symbol) → ((x : Operand) → s ≡ operand x → ⊥) → (d : ℕ) → step k (want_operand d) s ≡ dead
-no_operand k or_word h d = refl
-no_operand k and_word h d = refl
-no_operand k not_word h d = refl
-no_operand k (truth_word b) h d = refl
-no_operand k opening h d = refl
-no_operand k closing h d = refl
 no_operand k (operand x) h d = absurd (h x refl)
-no_operand k (sign c) h d = refl
-no_operand k (link_word n) h d = refl
-no_operand k bad h d = refl
+no_operand k _ h d = refl
 
 -- nothing but not, an opening, a truth word or a test begins a factor
 pub no_start : (k : Kind) (s : Symbol) (d : ℕ) → (s ≡ not_word → ⊥) → (s ≡ opening → ⊥) → ((b : Bool) → s ≡ truth_word b → ⊥) → ((x : Operand) → s ≡ operand x → operand_first k d ≡ dead) → ((n : ℕ) → s ≡ link_word n → link_first k n d ≡ dead) → step k (want d) s ≡ dead
-no_start k or_word d n o b x l = refl
-no_start k and_word d n o b x l = refl
 no_start k not_word d n o b x l = absurd (n refl)
 no_start k (truth_word t) d n o b x l = absurd (b t refl)
 no_start k opening d n o b x l = absurd (o refl)
-no_start k closing d n o b x l = refl
 no_start k (operand y) d n o b x l = x y refl
-no_start k (sign c) d n o b x l = refl
 no_start k (link_word m) d n o b x l = l m refl
-no_start k bad d n o b x l = refl
+no_start k _ d n o b x l = refl
 
 pub no_start_transition : (s : Symbol) → (s ≡ not_word → ⊥) → (s ≡ opening → ⊥) → ((b : Bool) → s ≡ truth_word b → ⊥) → ((x : Operand) → s ≡ operand x → ⊥) → (d : ℕ) → step transition (want d) s ≡ dead
 no_start_transition s n o b x d = no_start transition s d n o b (λ y e. absurd (x y e)) (λ m e. refl)

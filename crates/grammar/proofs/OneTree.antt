@@ -2,7 +2,7 @@
 use Rattle.std.proofs.Common.{◌≡◌, ℕ, zero, suc, false, List, [], ◌∷◌, ◌++◌, sym, refl, ap, ◌∙◌}
 use mathlib.Core.Option.{Option, none, some}
 use Rattle.values.specs.declared.amount.Comparison.{Comparison}
-use Rattle.grammar.specs.Symbols.{Operand, Symbol, or_word, and_word, not_word, truth_word, opening, closing, operand, sign, link_word, bad}
+use Rattle.grammar.specs.Symbols.{Operand, Symbol, or_word, and_word, not_word, truth_word, opening, closing, operand, sign, link_word}
 use Rattle.grammar.specs.Grammar.{Kind, compares, status, Tree, constant, test, negation, conjunction, disjunction, Level, condition, term, factor, Reads, one_term, or_term, one_factor, and_factor, of_not, of_parentheses, of_truth, of_comparison, of_link}
 use Rattle.grammar.specs.Viable.{OneReading}
 
@@ -35,47 +35,17 @@ pops [] t = stuck
 pops (f ∷ ks) t = gets ks f.terms f.factors f.pending t
 
 abbrev move : Machine → Symbol → Machine
-move (wants ks o a n) or_word = stuck
-move (wants ks o a n) and_word = stuck
 move (wants ks o a n) not_word = wants ks o a (suc n)
 move (wants ks o a n) (truth_word b) = gets ks o a n (constant b)
 move (wants ks o a n) opening = wants (record { terms = o; factors = a; pending = n } ∷ ks) none none 0
-move (wants ks o a n) closing = stuck
 move (wants ks o a n) (operand x) = wants_sign ks o a n x
-move (wants ks o a n) (sign c) = stuck
 move (wants ks o a n) (link_word m) = gets ks o a n (test (status m))
-move (wants ks o a n) bad = stuck
-move (wants_sign ks o a n x) or_word = stuck
-move (wants_sign ks o a n x) and_word = stuck
-move (wants_sign ks o a n x) not_word = stuck
-move (wants_sign ks o a n x) (truth_word b) = stuck
-move (wants_sign ks o a n x) opening = stuck
-move (wants_sign ks o a n x) closing = stuck
-move (wants_sign ks o a n x) (operand y) = stuck
 move (wants_sign ks o a n x) (sign c) = wants_operand ks o a n x c
-move (wants_sign ks o a n x) (link_word m) = stuck
-move (wants_sign ks o a n x) bad = stuck
-move (wants_operand ks o a n x c) or_word = stuck
-move (wants_operand ks o a n x c) and_word = stuck
-move (wants_operand ks o a n x c) not_word = stuck
-move (wants_operand ks o a n x c) (truth_word b) = stuck
-move (wants_operand ks o a n x c) opening = stuck
-move (wants_operand ks o a n x c) closing = stuck
 move (wants_operand ks o a n x c) (operand y) = gets ks o a n (test (compares x c y))
-move (wants_operand ks o a n x c) (sign e) = stuck
-move (wants_operand ks o a n x c) (link_word m) = stuck
-move (wants_operand ks o a n x c) bad = stuck
 move (has ks o t) or_word = wants ks (some (after disjunction o t)) none 0
 move (has ks o t) and_word = wants ks o (some t) 0
-move (has ks o t) not_word = stuck
-move (has ks o t) (truth_word b) = stuck
-move (has ks o t) opening = stuck
 move (has ks o t) closing = pops ks (after disjunction o t)
-move (has ks o t) (operand x) = stuck
-move (has ks o t) (sign c) = stuck
-move (has ks o t) (link_word m) = stuck
-move (has ks o t) bad = stuck
-move stuck s = stuck
+move _ _ = stuck
 
 abbrev moves : Machine → List Symbol → Machine
 moves m [] = m
@@ -107,11 +77,8 @@ builds k l ts t of_comparison = λ ks o a n. refl
 builds k l ts t (of_link m) = λ ks o a n. refl
 
 abbrev built : Machine → Tree
-built (wants ks o a n) = constant false
-built (wants_sign ks o a n x) = constant false
-built (wants_operand ks o a n x c) = constant false
 built (has ks o t) = after disjunction o t
-built stuck = constant false
+built _ = constant false
 
 pub one_reading : OneReading
 one_reading k ts t u p q =

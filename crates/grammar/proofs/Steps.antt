@@ -3,7 +3,7 @@ use Rattle.std.proofs.Common.{◌≡◌, ℕ, suc, ◌≤◌, cond, List, [], �
 use mathlib.Core.Path.{subst⁻¹}
 use Rattle.grammar.specs.Symbols.{Symbol, or_word, and_word, closing}
 use Rattle.grammar.specs.Grammar.{Kind, Tree, Level, Reads, one_term, or_term, one_factor, and_factor, of_not, of_parentheses, of_truth, of_comparison, of_link}
-use Rattle.grammar.specs.Parsing.{State, want, want_sign, want_operand, have, dead, step, feed, Pending, Stops}
+use Rattle.grammar.specs.Parsing.{State, want, have, dead, step, feed, Pending, Stops}
 
 pub feed_append : (k : Kind) (s : State) (xs ys : List Symbol) → feed k s (xs ++ ys) ≡ feed k (feed k s xs) ys
 feed_append k s [] ys = refl
@@ -30,11 +30,8 @@ runs of_comparison d = refl
 runs (of_link m) d = ap (λ b. cond b (have d) dead) m
 
 weaker : (d e : ℕ) (s : State) → d ≤ e → Pending e s → Pending d s
-weaker d e (want m) l h = omega arith
-weaker d e (want_sign m) l h = omega arith
-weaker d e (want_operand m) l h = omega arith
-weaker d e (have m) l h = omega arith
 weaker d e dead l h = h
+weaker d e _ l h = omega arith
 
 -- what stops in a part stops in the whole, if what comes before the part leads to where it begins
 pub later : (k : Kind) (d : ℕ) {e : ℕ} (front used rest : List Symbol) → d ≤ e → feed k (want d) front ≡ want e → Stops k e used rest → Stops k d (front ++ used) rest

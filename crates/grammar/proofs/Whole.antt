@@ -5,7 +5,7 @@ use Rattle.grammar.specs.Symbols.{Symbol}
 use Rattle.grammar.specs.Grammar.{Kind, Tree, condition, Reads}
 use Rattle.grammar.specs.Viable.{Continues}
 use Rattle.grammar.specs.Faults.{Located, symbols, AtSymbol, FaultAt, at_symbol, at_end, OneFault}
-use Rattle.grammar.specs.Parsing.{place_of, State, want, want_sign, want_operand, have, dead, feed, Pending, Stops, Done, Failed}
+use Rattle.grammar.specs.Parsing.{place_of, State, want, dead, feed, Pending, Stops, Done, Failed}
 use Rattle.grammar.proofs.Steps.{feed_from, feed_dead, runs}
 use Rattle.grammar.proofs.Joins.{symbols_append, barred_outside}
 
@@ -13,11 +13,8 @@ pub whole_reads : {k : Kind} {means : Tree → Type 0} {before : List Located} �
 whole_reads {k} d = (d.tree, subst⁻¹ (λ ts. Reads k condition (symbols ts) d.tree) (d.split ∙ append-nil d.used) d.reads, d.says)
 
 abbrev alive : State → ℕ
-alive (want d) = 1
-alive (want_sign d) = 1
-alive (want_operand d) = 1
-alive (have d) = 1
 alive dead = 0
+alive _ = 1
 
 dies : {k : Kind} (ts : List Symbol) → feed k (want 0) ts ≡ dead → Continues k ts → ⊥
 dies {k} ts e c = omega (arith, ap alive (sym (runs c.reads 0) ∙ feed_from k (want 0) ts c.more e ∙ feed_dead k c.more))

@@ -1,15 +1,16 @@
 -- Causes and places are small numbers.
-use Rattle.std.proofs.Common.{ℕ, zero, suc, ◌+◌, ◌*◌, ◌^◌, ◌<◌, ◌≤◌, List, [], ◌∷◌, length, get_or, ap, mul-le-mul_right, suc-mul, arith}
+use Rattle.std.proofs.Common.{ℕ, ◌+◌, ◌*◌, ◌^◌, ◌<◌, ◌≤◌, List, [], ◌∷◌, length, get_or, ap, mul-le-mul_right, suc-mul, arith}
 use Rattle.std.specs.List.{flat_map, AllByRecursion}
 use Rattle.std.proofs.lemmas.List.{length-append, length-take-le}
+use Rattle.std.proofs.ByRecursion.{All-weaker, All-get_or}
 use Rattle.conditions.proofs.Within.{fault_within}
 use Rattle.layout.specs.declared.refusal.LayoutRefusal.{LayoutRefusal}
-use Rattle.layout.specs.declared.refusal.LayoutRefusal.TheVariants.{Cut, Count, TextLength, Extra}
+use Rattle.layout.specs.declared.refusal.LayoutRefusal.TheVariants.{Extra}
 use Rattle.layout.specs.Layout.{Parts, Counts, GoodText, Item, bytes_of, encode, section_items, record_items, text_items, activity_bytes, link_bytes, connector_bytes}
 use Rattle.layout.specs.Verdicts.{Refused, Next}
 use Rattle.layout.proofs.Taking.{bytes_append}
 use Rattle.rules.specs.declared.refusal.RuleRefusal.{RuleRefusal}
-use Rattle.rules.specs.declared.refusal.RuleRefusal.TheVariants.{Flags, NoEnd, Twice, Cycle, BadConnector, NoPath, BadText}
+use Rattle.rules.specs.declared.refusal.RuleRefusal.TheVariants.{BadText}
 use Rattle.rules.specs.Rules.{Broken, kind_of_text}
 use Rattle.flows.specs.declared.refusal.DefinitionRefusal.{DefinitionRefusal}
 use Rattle.flows.specs.declared.refusal.DefinitionRefusal.TheVariants.{Layout, Rule}
@@ -26,10 +27,6 @@ all_of : {X : Type 0} (P : X → Type 0) → ((x : X) → P x) → (xs : List X)
 all_of P h [] = tt
 all_of P h (x ∷ xs) = (h x, all_of P h xs)
 
-texts_few : (ts : List (List ℕ)) → AllByRecursion GoodText ts → AllByRecursion (λ t. length (bytes_of (text_items t)) ≤ 61) ts
-texts_few [] a = tt
-texts_few (t ∷ ts) a = (omega (arith, length-append t [], a.0.1), texts_few ts a.1)
-
 section_few : {X : Type 0} (items : X → List Item) (width most : ℕ) (xs : List X) (after : List Item) → AllByRecursion (λ x. length (bytes_of (items x)) ≤ width) xs → length xs ≤ most → length (bytes_of (section_items items xs after)) ≤ 2 + most * width + length (bytes_of after)
 section_few items width most xs after a h =
     omega (arith, ap length (bytes_append (flat_map items xs) after), length-append (bytes_of (flat_map items xs)) (bytes_of after), few_bytes items width xs a, mul-le-mul_right width h)
@@ -44,7 +41,7 @@ encode_few p c =
       section_few (record_items activity_bytes) 4 32 p.activities links (all_of _ (λ x. omega arith) p.activities) c.few_activities,
       section_few (record_items link_bytes) 2 128 p.links connectors (all_of _ (λ x. omega arith) p.links) c.few_links,
       section_few (record_items connector_bytes) 5 256 p.connectors texts (all_of _ (λ x. omega arith) p.connectors) c.few_connectors,
-      section_few text_items 61 160 p.texts [] (texts_few p.texts c.good_texts) (omega (arith, c.as_many_texts, c.few_links, c.few_activities)),
+      section_few text_items 61 160 p.texts [] (All-weaker GoodText _ (λ t g. omega (arith, length-append t [], g.1)) p.texts c.good_texts) (omega (arith, c.as_many_texts, c.few_links, c.few_activities)),
     )
 
 next_within : (bs : List ℕ) (at : ℕ) (item : Item) → Next bs at item → at ≤ 11432
@@ -52,25 +49,13 @@ next_within bs at item n =
     omega (arith, n.at_is, ap (λ is. length (bytes_of is)) n.items_are, ap length (bytes_append n.before (item ∷ n.after)), length-append (bytes_of n.before) (bytes_of (item ∷ n.after)), encode_few n.parts n.limits.counts)
 
 layout_place : (bs : List ℕ) (e : LayoutRefusal) → Refused bs e → place_of (Layout e) ≤ 11432
-layout_place bs (Cut at) r = next_within bs at _ r.next
-layout_place bs (Count at) r = next_within bs at _ r.next
-layout_place bs (TextLength at) r = next_within bs at _ r.next
 layout_place bs (Extra at) r = omega (arith, ap length r.encode_is, length-take-le at bs (omega (arith, r.more)), encode_few r.parts r.limits.counts)
-
-text_within : (ts : List (List ℕ)) (i : ℕ) → AllByRecursion GoodText ts → length (get_or ts i []) ≤ 60
-text_within [] i a = omega arith
-text_within (t ∷ ts) zero a = a.0.1
-text_within (t ∷ ts) (suc i) a = text_within ts i a.1
+layout_place bs e r = next_within bs (place_of (Layout e)) _ r.next
 
 rule_place : (p : Parts) → Counts p → (e : RuleRefusal) → Broken p e → place_of (Rule e) ≤ 41023
-rule_place p c (Flags i) b = omega (arith, b.0, c.few_activities)
-rule_place p c (NoEnd i) b = omega (arith, b.0, c.few_links)
-rule_place p c (Twice i) b = omega (arith, b.0, c.few_links)
-rule_place p c (Cycle a) b = omega (arith, b.0, c.few_activities)
-rule_place p c (BadConnector i) b = omega (arith, b.0, c.few_connectors)
-rule_place p c (NoPath i) b = omega (arith, b.0, c.few_connectors)
 rule_place p c (BadText i place) b =
-    omega (arith, b.0, c.as_many_texts, c.few_links, c.few_activities, fault_within (kind_of_text p.links i) (get_or p.texts i []) place b.1, text_within p.texts i c.good_texts)
+    omega (arith, b.0, c.as_many_texts, c.few_links, c.few_activities, fault_within (kind_of_text p.links i) (get_or p.texts i []) place b.1, (All-get_or GoodText p.texts i [] b.0 c.good_texts).1)
+rule_place p c e b = omega (arith, b.0, c.few_activities, c.few_links, c.few_connectors)
 
 pub place_small : (bs : List ℕ) (e : DefinitionRefusal) → Judged bs (refused e) → place_of e < 2 ^ 32
 place_small bs (Layout e) j = omega (arith, layout_place bs e j)

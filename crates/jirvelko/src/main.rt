@@ -3,74 +3,38 @@
 #![tactic(auto)]
 
 use anyhow::anyhow;
-use std::alloc::Global;
+use commands::{cases, files, ordering, starting, weighing};
+use std::io;
 use std::process::ExitCode;
-use std::{env, fs};
 
-mod cases;
-mod ordering;
-mod weighing;
+mod sample;
 
 const USAGE: &str =
     "usage: jirvelko [samples | case FILE.. | weigh TEXT [f0=NUMBER ..] | script FILE]";
 
 fn main(rt: HostRuntime) -> ExitCode {
-    match run(&rt) {
-        Ok(()) => ExitCode::SUCCESS,
-        Err(error) => {
-            let _ = eprintln!(rt; "jirvelko: {error}");
-            ExitCode::FAILURE
-        }
-    }
-}
-
-fn run(rt: &HostRuntime) -> anyhow::Result<()> {
-    let mut words = Vec::new(rt.alloc());
-    for word in env::args(rt)?.skip(1) {
-        words.push(word)?;
-    }
-    if words.is_empty() {
-        return show_samples(rt);
-    }
-    if words.len() == 2 && words[0].as_str() == "script" {
-        return script(rt, words[1].as_str());
-    }
-    call(rt, &words)
+    starting::start(&rt, call)
 }
 
 fn call(rt: &HostRuntime, words: &[String]) -> anyhow::Result<()> {
     let Some((command, rest)) = words.split_first() else {
-        return Err(anyhow!(USAGE));
+        return show_samples(rt);
     };
     match command.as_str() {
-        "case" => cases::show_files(rt, rest),
-        "weigh" => weighing::show(rt, rest),
+        "case" => files::show_each(rt, rest, cases::show_file),
+        "weigh" => weighing::show(rt, rest, write_text),
         "samples" => show_samples(rt),
         _ => Err(anyhow!(USAGE)),
     }
 }
 
 fn show_samples(rt: &HostRuntime) -> anyhow::Result<()> {
-    cases::show_sample(rt)?;
-    weighing::show_sample(rt)?;
-    ordering::show_sample(rt)
-}
-
-/// Each line of the file is one call, its words separated by ` | `.
-fn script(rt: &HostRuntime, file: &str) -> anyhow::Result<()> {
-    let text = fs::read_to_string(rt, file)?;
-    for line in text.as_str().lines() {
-        println!(rt; "> {line}")?;
-        let words = words_of(rt.alloc(), line)?;
-        call(rt, &words)?;
-    }
+    sample::show(rt)?;
+    weighing::show_sample(rt, write_text)?;
+    ordering::show_sample(rt)?;
     Ok(())
 }
 
-fn words_of(heap: Global, line: &str) -> anyhow::Result<Vec<String>> {
-    let mut words = Vec::new(heap);
-    for word in line.split(" | ") {
-        words.push(String::from_str(heap, word)?)?;
-    }
-    Ok(words)
+fn write_text(rt: &HostRuntime, text: &str) -> io::Result<()> {
+    print!(rt; "{text}")
 }

@@ -1,12 +1,13 @@
 //! `jirvelko evaluate`: what a flow comes to on a case, with a rule table as the partner.
 
-use crate::{asking, cases, checking};
+use crate::{asking, checking};
 use anyhow::anyhow;
+use commands::cases;
 use evaluation::evaluated::Evaluated;
 use evaluation::evaluating::evaluate;
 use evaluation_laws::Outcome;
 use flows::flow::Flow;
-use tables::table::RuleTable;
+use std::io;
 
 pub fn show_sample(rt: &HostRuntime) -> anyhow::Result<()> {
     println!(rt; "what the loan comes to")?;
@@ -25,55 +26,43 @@ pub fn show(rt: &HostRuntime, words: &[String]) -> anyhow::Result<()> {
     show_files(rt, flow.as_str(), table.as_str(), case.as_str())
 }
 
-fn show_files(rt: &HostRuntime, flow_file: &str, table: &str, case: &str) -> anyhow::Result<()> {
-    let mut flow = Flow::fresh();
-    let mut partner = RuleTable::new();
-    if !checking::load(rt, flow_file, &mut flow)? || !asking::load(rt, table, &mut partner)? {
+fn show_files(rt: &HostRuntime, flow: &str, table: &str, case: &str) -> anyhow::Result<()> {
+    let Some(flow) = checking::load(rt, flow)? else {
         return Ok(());
-    }
+    };
+    let Some(mut partner) = asking::load(rt, table)? else {
+        return Ok(());
+    };
     let Some(case) = cases::load(rt, case)? else {
         return Ok(());
     };
     match evaluate(&flow, &case, &mut partner) {
-        Some(evaluated) => show_evaluated(rt, &flow, &evaluated),
-        None => {
-            println!(rt; "busy")?;
-            Ok(())
-        }
+        Some(evaluated) => show_evaluated(rt, &flow, &evaluated)?,
+        None => println!(rt; "busy")?,
     }
-}
-
-fn show_evaluated(rt: &HostRuntime, flow: &Flow, evaluated: &Evaluated) -> anyhow::Result<()> {
-    for activity in 0..flow.activity_count() {
-        show_activity(rt, evaluated, activity)?;
-    }
-    for link in 0..flow.link_count() {
-        if let Some(status) = evaluated.status(link) {
-            println!(rt; "link {link}: {status}")?;
-        }
-    }
-    let charge = evaluated.charge();
-    println!(rt; "charge: {charge}")?;
     Ok(())
 }
 
+fn show_evaluated(rt: &HostRuntime, flow: &Flow, evaluated: &Evaluated) -> io::Result<()> {
+    for activity in 0..flow.activity_count() {
+        show_activity(rt, evaluated, activity)?;
+    }
+    for (link, status) in evaluated.statuses().iter().enumerate() {
+        println!(rt; "link {link}: {status}")?;
+    }
+    let charge = evaluated.charge();
+    println!(rt; "charge: {charge}")
+}
+
 /// The ending of an activity, and under it the input that it was given.
-fn show_activity(rt: &HostRuntime, evaluated: &Evaluated, activity: usize) -> anyhow::Result<()> {
+fn show_activity(rt: &HostRuntime, evaluated: &Evaluated, activity: usize) -> io::Result<()> {
     let Some(outcome) = evaluated.outcome(activity) else {
         return Ok(());
     };
-    match outcome {
-        Outcome::Skipped => {
-            println!(rt; "activity {activity}: skipped")?;
-            return Ok(());
-        }
-        Outcome::Completed(output) => println!(rt; "activity {activity}: completed {output}")?,
-        Outcome::Faulted(fault) => {
-            let code = fault.code();
-            println!(rt; "activity {activity}: faulted {code}")?;
-        }
-    }
-    if let Some(input) = evaluated.input(activity) {
+    println!(rt; "activity {activity}: {outcome}")?;
+    if let Some(input) = evaluated.input(activity)
+        && outcome != Outcome::Skipped
+    {
         println!(rt; "            input     {input}")?;
     }
     Ok(())

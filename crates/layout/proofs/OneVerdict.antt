@@ -1,7 +1,7 @@
 -- Every verdict says where and how the bytes stop to follow a layout; so there is only one.
 use Rattle.std.proofs.Common.{◌≡◌, ℕ, ◌+◌, ◌<◌, ◌≤◌, cond, ltb, List, [], ◌∷◌, ◌++◌, length, get_or, take, drop, Some, None, Option, sym, refl, ap, ◌∙◌, subst, arith}
 use Rattle.std.specs.List.{flat_map}
-use Rattle.std.proofs.lemmas.List.{append-nil, take-append-drop, take-take, drop-take, length-take, length-take-le, length-drop}
+use Rattle.std.proofs.lemmas.List.{append-nil, append_assoc, take-append-drop, take-take, drop-take, length-take, length-take-le, length-drop}
 use Rattle.std.proofs.lemmas.Bool.{lt-ltb, le-ltb}
 use Rattle.parts.specs.declared.Activity.{Activity}
 use Rattle.parts.specs.declared.Link.{Link}
@@ -109,65 +109,48 @@ told bs (Extra at) r =
       answer_is = ap (λ k. answer [] (drop at bs) k) (ap length r.encode_is ∙ length-take-le at bs (omega (arith, r.more))) ∙ answer_extra (drop at bs) at (omega (arith, r.more));
     }
 
--- records with equal bytes are equal
-activity_of : ℕ → ℕ → ℕ → Activity
-activity_of operation priority flags = record { operation = operation; priority = priority; flags = flags }
-
-activity_made : {o p f o' p' f' : ℕ} → o ≡ o' → p ≡ p' → f ≡ f' → activity_of o p f ≡ activity_of o' p' f'
-activity_made x y z = cc
-
+-- records with equal bytes are equal: a record is read off its numbers
 activity_same : (a b : Activity) → activity_bytes a ≡ activity_bytes b → a ≡ b
-unfolding activity_of
-activity_same a b e = activity_made (two_same a.operation b.operation (ap (take 2) e)) (ap (λ l. get_or l 2 0) e) (ap (λ l. get_or l 3 0) e)
-
-link_of : ℕ → ℕ → Link
-link_of source target = record { source = source; target = target }
-
-link_made : {s t s' t' : ℕ} → s ≡ s' → t ≡ t' → link_of s t ≡ link_of s' t'
-link_made x y = cc
+activity_same a b e =
+    let from : List ℕ → Activity = λ l. record { operation = get_or l 0 0; priority = get_or l 1 0; flags = get_or l 2 0 } in
+    let operation : a.operation ≡ b.operation = two_same a.operation b.operation (ap (take 2) e) in
+    let same : a.operation ∷ a.priority ∷ a.flags ∷ [] ≡ b.operation ∷ b.priority ∷ b.flags ∷ [] = cc in
+    ap from same
 
 link_same : (a b : Link) → link_bytes a ≡ link_bytes b → a ≡ b
-unfolding link_of
-link_same a b e = link_made (ap (λ l. get_or l 0 0) e) (ap (λ l. get_or l 1 0) e)
-
-connector_of : ℕ → ℕ → ℕ → ℕ → ℕ → Connector
-connector_of target target_field kind source source_field = record { target = target; target_field = target_field; kind = kind; source = source; source_field = source_field }
-
-connector_made : {t u k s v t' u' k' s' v' : ℕ} → t ≡ t' → u ≡ u' → k ≡ k' → s ≡ s' → v ≡ v' → connector_of t u k s v ≡ connector_of t' u' k' s' v'
-connector_made a b c d e = cc
+link_same a b e =
+    let from : List ℕ → Link = λ l. record { source = get_or l 0 0; target = get_or l 1 0 } in
+    ap from e
 
 connector_same : (a b : Connector) → connector_bytes a ≡ connector_bytes b → a ≡ b
-unfolding connector_of
-connector_same a b e = connector_made (ap (λ l. get_or l 0 0) e) (ap (λ l. get_or l 1 0) e) (ap (λ l. get_or l 2 0) e) (ap (λ l. get_or l 3 0) e) (ap (λ l. get_or l 4 0) e)
+connector_same a b e =
+    let from : List ℕ → Connector = λ l. record { target = get_or l 0 0; target_field = get_or l 1 0; kind = get_or l 2 0; source = get_or l 3 0; source_field = get_or l 4 0 } in
+    ap from e
 
 -- the parts can be read off the items
-records_same : {X : Type 0} (f : X → List ℕ) → ((x y : X) → f x ≡ f y → x ≡ y) → (xs ys : List X) (R S : List Item) → length xs ≡ length ys → flat_map (record_items f) xs ++ R ≡ flat_map (record_items f) ys ++ S → (xs ≡ ys) × (R ≡ S)
-records_same f inj [] [] R S l e = (refl, e)
-records_same f inj [] (y ∷ ys) R S l e = absurd (omega arith)
-records_same f inj (x ∷ xs) [] R S l e = absurd (omega arith)
-records_same f inj (x ∷ xs) (y ∷ ys) R S l e =
-    let here : f x ≡ f y = cc in
-    let there : flat_map (record_items f) xs ++ R ≡ flat_map (record_items f) ys ++ S = cc in
-    let rest = records_same f inj xs ys R S (omega arith) there in
-    let first : x ≡ y = inj x y here in
-    let others : xs ≡ ys = rest.0 in
-    (cc, rest.1)
+abbrev ReadOff : {X : Type 0} → (X → List Item) → Type 0
+ReadOff {X} f = (x y : X) (R S : List Item) → f x ++ R ≡ f y ++ S → (x ≡ y) × (R ≡ S)
 
-section_same : {X : Type 0} (f : X → List ℕ) → ((x y : X) → f x ≡ f y → x ≡ y) → (xs ys : List X) (R S : List Item) → section_items (record_items f) xs R ≡ section_items (record_items f) ys S → (xs ≡ ys) × (R ≡ S)
-section_same f inj xs ys R S e =
-    let n : length xs ≡ length ys = cc in
-    let there : flat_map (record_items f) xs ++ R ≡ flat_map (record_items f) ys ++ S = cc in
-    records_same f inj xs ys R S n there
+record_off : {X : Type 0} (f : X → List ℕ) → ((x y : X) → f x ≡ f y → x ≡ y) → ReadOff (record_items f)
+record_off f same x y R S e = let here : f x ≡ f y = cc in (same x y here, cc)
 
-texts_same : (ts us : List (List ℕ)) → length ts ≡ length us → flat_map text_items ts ++ [] ≡ flat_map text_items us ++ [] → ts ≡ us
-texts_same [] [] l e = refl
-texts_same [] (u ∷ us) l e = absurd (omega arith)
-texts_same (t ∷ ts) [] l e = absurd (omega arith)
-texts_same (t ∷ ts) (u ∷ us) l e =
-    let here : t ≡ u = cc in
-    let there : flat_map text_items ts ++ [] ≡ flat_map text_items us ++ [] = cc in
-    let rest : ts ≡ us = texts_same ts us (omega arith) there in
-    cc
+text_off : ReadOff text_items
+text_off t u R S e = (cc, cc)
+
+elements_same : {X : Type 0} (f : X → List Item) → ReadOff f → (xs ys : List X) (R S : List Item) → length xs ≡ length ys → flat_map f xs ++ R ≡ flat_map f ys ++ S → (xs ≡ ys) × (R ≡ S)
+elements_same f off [] [] R S l e = (refl, e)
+elements_same f off [] (y ∷ ys) R S l e = absurd (omega arith)
+elements_same f off (x ∷ xs) [] R S l e = absurd (omega arith)
+elements_same f off (x ∷ xs) (y ∷ ys) R S l e =
+    let first = off x y (flat_map f xs ++ R) (flat_map f ys ++ S) (simp append_assoc at e) in
+    let others = elements_same f off xs ys R S (omega arith) first.1 in
+    (ap (λ z. z ∷ xs) first.0 ∙ ap (λ zs. y ∷ zs) others.0, others.1)
+
+section_same : {X : Type 0} (f : X → List Item) → ReadOff f → (xs ys : List X) (R S : List Item) → section_items f xs R ≡ section_items f ys S → (xs ≡ ys) × (R ≡ S)
+section_same f off xs ys R S e =
+    let long : length xs ≡ length ys = cc in
+    let there : flat_map f xs ++ R ≡ flat_map f ys ++ S = cc in
+    elements_same f off xs ys R S long there
 
 parts_from : List Activity → List Link → List Connector → List (List ℕ) → Parts
 parts_from acts ls cs ts = record { activities = acts; links = ls; connectors = cs; texts = ts }
@@ -178,13 +161,11 @@ parts_made w x y z = cc
 items_same : (p q : Parts) → items_of p ≡ items_of q → p ≡ q
 unfolding parts_from
 items_same p q e =
-    let a = section_same activity_bytes activity_same p.activities q.activities _ _ e in
-    let l = section_same link_bytes link_same p.links q.links _ _ a.1 in
-    let c = section_same connector_bytes connector_same p.connectors q.connectors (section_items text_items p.texts []) (section_items text_items q.texts []) l.1 in
-    let te : section_items text_items p.texts [] ≡ section_items text_items q.texts [] = c.1 in
-    let n : length p.texts ≡ length q.texts = cc in
-    let there : flat_map text_items p.texts ++ [] ≡ flat_map text_items q.texts ++ [] = cc in
-    parts_made a.0 l.0 c.0 (texts_same p.texts q.texts n there)
+    let a = section_same (record_items activity_bytes) (record_off activity_bytes activity_same) p.activities q.activities _ _ e in
+    let l = section_same (record_items link_bytes) (record_off link_bytes link_same) p.links q.links _ _ a.1 in
+    let c = section_same (record_items connector_bytes) (record_off connector_bytes connector_same) p.connectors q.connectors _ _ l.1 in
+    let t = section_same text_items text_off p.texts q.texts [] [] c.1 in
+    parts_made a.0 l.0 c.0 t.0
 
 parts_same : (bs : List ℕ) (p q : Parts) → WithinLimits p → WithinLimits q → bs ≡ encode p → bs ≡ encode q → p ≡ q
 unfolding told_whole

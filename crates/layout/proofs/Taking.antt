@@ -1,61 +1,58 @@
 -- Bytes that are read one after the other.
-use Rattle.std.proofs.Common.{◌≡◌, ℕ, zero, suc, ◌+◌, ◌-◌, ◌≤◌, List, [], ◌∷◌, ◌++◌, map, length, get_or, take, drop, sym, refl, ap, ◌∙◌, subst, arith}
+use Rattle.std.proofs.Common.{◌≡◌, ℕ, ◌+◌, ◌<◌, ◌≤◌, List, [], ◌∷◌, ◌++◌, length, take, sym, refl, ap, ◌∙◌, subst, arith}
 use Rattle.std.specs.List.{flat_map}
-use Rattle.std.proofs.lemmas.List.{drop_all, drop_more, drop-drop, append_assoc, append-nil, length-append, length-drop, length-take-le, take-append-drop, take_at}
-use Rattle.layout.specs.Layout.{two_bytes, Item, item_bytes, bytes_of}
-use Rattle.layout.specs.Reading.{Took}
-
-pub took_none : (bs : List ℕ) (at : ℕ) → at ≤ length bs → Took bs at at []
-took_none bs at h = record { here = refl; to_is = omega arith; within = h }
-
-pub took_more : {bs : List ℕ} {a b c : ℕ} {xs ys : List ℕ} → Took bs a b xs → Took bs b c ys → Took bs a c (xs ++ ys)
-took_more {bs} {a} {b} {c} {xs} {ys} p q = record {
-  here = p.here ∙ ap (λ l. xs ++ l) q.here ∙ sym (append_assoc xs ys (drop c bs));
-  to_is = omega (arith, length-append xs ys, p.to_is, q.to_is);
-  within = q.within;
-}
-
-pub took_front : {bs : List ℕ} {at : ℕ} {xs : List ℕ} → Took bs 0 at xs → take at bs ≡ xs
-took_front {bs} {at} {xs} t = ap (take at) t.here ∙ take_at xs (drop at bs) at (omega (arith, t.to_is))
-
--- n bytes from at on
-pub took_part : (bs : List ℕ) (at n : ℕ) → at + n ≤ length bs → Took bs at (at + n) (take (at + n - at) (drop at bs)) × (length (take (at + n - at) (drop at bs)) ≡ n)
-took_part bs at n h =
-    let short = length-drop at bs in
-    let n_is : at + n - at ≡ n = omega arith in
-    let long : length (take n (drop at bs)) ≡ n = length-take-le n (drop at bs) (omega arith) in
-    rw n_is (record { here = sym (take-append-drop n (drop at bs)) ∙ ap (λ l. take n (drop at bs) ++ l) (drop-drop n at bs); to_is = omega arith; within = h }, long)
-
--- n elements from i on, one by one
-abbrev pub elements : ℕ → ℕ → List ℕ → List ℕ
-elements zero i s = []
-elements (suc n) i s = get_or s i 0 ∷ elements n (i + 1) s
-
-elements_are : (n i : ℕ) (s : List ℕ) → length s ≡ i + n → drop i s ≡ elements n i s
-elements_are zero i s h = drop_all i s (omega arith)
-elements_are (suc n) i s h = drop_more s i 0 (omega arith) ∙ ap (λ l. get_or s i 0 ∷ l) (elements_are n (i + 1) s (omega arith))
-
-pub took_elements : {bs : List ℕ} {at to : ℕ} (n : ℕ) (s : List ℕ) → Took bs at to s × (length s ≡ n) → Took bs at to (elements n 0 s)
-took_elements {bs} {at} {to} n s h = subst (λ l. Took bs at to l) (elements_are n 0 s (omega (arith, h.1))) h.0
-
--- a number in the first two bytes, and n more
-pub took_number : {bs : List ℕ} {at to : ℕ} (n : ℕ) (s : List ℕ) (r : ℕ) → Took bs at to s × (length s ≡ suc (suc n)) → two_bytes r ≡ get_or s 0 0 ∷ get_or s 1 0 ∷ [] → Took bs at to (two_bytes r ++ elements n 2 s)
-took_number {bs} {at} {to} n s r h e = subst (λ k. Took bs at to (k ++ elements n 2 s)) (sym e) (took_elements (suc (suc n)) s h)
-
-pub joined_append : {X A : Type 0} (f : X → List A) (xs ys : List X) → flat_map f (xs ++ ys) ≡ flat_map f xs ++ flat_map f ys
-joined_append f [] ys = refl
-joined_append f (x ∷ xs) ys = ap (λ l. f x ++ l) (joined_append f xs ys) ∙ sym (append_assoc (f x) (flat_map f xs) (flat_map f ys))
-
-pub joined_map : {X Y A : Type 0} (f : Y → List A) (g : X → Y) (xs : List X) → flat_map f (map g xs) ≡ flat_map (λ x. f (g x)) xs
-joined_map f g [] = refl
-joined_map f g (x ∷ xs) = ap (λ l. f (g x) ++ l) (joined_map f g xs)
+use Rattle.std.proofs.lemmas.List.{append_assoc, append-nil, length-append, take_at}
+use Rattle.std.proofs.lemmas.Grind.{flat_map-append}
+use Rattle.std.proofs.ByRecursion.{All-append}
+use Rattle.layout.specs.declared.reader.Reader.{Reader}
+use Rattle.layout.specs.Layout.{Item, item_bytes, bytes_of}
+use Rattle.layout.specs.Reading.{Took, Filled}
 
 pub bytes_append : (xs ys : List Item) → bytes_of (xs ++ ys) ≡ bytes_of xs ++ bytes_of ys
-bytes_append xs ys = joined_append item_bytes xs ys
+bytes_append xs ys = flat_map-append item_bytes xs ys
 
-pub took_items : {bs : List ℕ} {a b c : ℕ} (is js : List Item) → Took bs a b (bytes_of is) → Took bs b c (bytes_of js) → Took bs a c (bytes_of (is ++ js))
-took_items is js p q = rw (bytes_append is js) (took_more p q)
+pub took_more : {a b c : Reader} {xs ys : List ℕ} → Took a b xs → Took b c ys → Took a c (xs ++ ys)
+took_more {c = c} {xs = xs} {ys = ys} p q = record {
+  rest_is = p.rest_is ∙ ap (λ l. xs ++ l) q.rest_is ∙ sym (append_assoc xs ys c.rest.now);
+  at_is = omega (arith, length-append xs ys, p.at_is, q.at_is);
+}
 
--- one more element of a section
-pub took_push : {X : Type 0} (items : X → List Item) {bs : List ℕ} {a b c : ℕ} (xs : List X) (x : X) → Took bs a b (bytes_of (flat_map items xs)) → Took bs b c (bytes_of (items x)) → Took bs a c (bytes_of (flat_map items (xs ++ x ∷ [])))
-took_push items xs x p q = rw (joined_append items xs (x ∷ []) ∙ ap (λ l. flat_map items xs ++ l) (append-nil (items x))) (took_items (flat_map items xs) (items x) p q)
+-- no elements, and one more
+pub filled_none : {X : Type 0} (items : X → List Item) (good : X → Type 0) (r : Reader) → Filled items good r r []
+filled_none items good r = record { took = record { rest_is = refl; at_is = omega arith }; fine = tt }
+
+pub filled_more : {X : Type 0} (items : X → List Item) (good : X → Type 0) {a b c : Reader} (xs : List X) (x : X) → Filled items good a b xs → Took b c (bytes_of (items x)) → good x → Filled items good a c (xs ++ x ∷ [])
+filled_more items good xs x f t g = record {
+  took = rw (flat_map-append items xs (x ∷ []), append-nil (items x), bytes_append (flat_map items xs) (items x)) (took_more f.took t);
+  fine = All-append good xs (x ∷ []) f.fine (g, tt);
+}
+
+-- the first bytes of bs, which a reader has read
+pub record ReadTo (bs these : List ℕ) (r : Reader) : Type 0 where
+  pub bytes_are : bs ≡ these ++ r.rest.now
+  pub at_is : r.at ≡ length these
+
+pub read_on : {bs xs ys : List ℕ} {r s : Reader} → ReadTo bs xs r → Took r s ys → ReadTo bs (xs ++ ys) s
+read_on {xs = xs} {ys = ys} {s = s} p q = record {
+  bytes_are = p.bytes_are ∙ ap (λ l. xs ++ l) q.rest_is ∙ sym (append_assoc xs ys s.rest.now);
+  at_is = omega (arith, length-append xs ys, p.at_is, q.at_is);
+}
+
+pub read_items : {bs : List ℕ} {r s : Reader} (is js : List Item) → ReadTo bs (bytes_of is) r → Took r s (bytes_of js) → ReadTo bs (bytes_of (is ++ js)) s
+read_items is js p q = rw (bytes_append is js) (read_on p q)
+
+pub read_front : {bs xs : List ℕ} {r : Reader} → ReadTo bs xs r → take r.at bs ≡ xs
+read_front {xs = xs} {r = r} p = ap (take r.at) p.bytes_are ∙ take_at xs r.rest.now r.at (sym p.at_is)
+
+pub read_long : {bs xs : List ℕ} {r : Reader} → ReadTo bs xs r → length bs ≡ r.at + length r.rest.now
+read_long {xs = xs} {r = r} p = omega (arith, ap length p.bytes_are, length-append xs r.rest.now, p.at_is)
+
+pub read_through : {bs xs ys : List ℕ} {r s : Reader} → ReadTo bs xs r → Took r s ys → take (r.at + length ys) bs ≡ xs ++ ys
+read_through {bs} {xs} {ys} p q = subst (λ k. take k bs ≡ xs ++ ys) q.at_is (read_front (read_on p q))
+
+pub read_within : {bs xs ys : List ℕ} {r s : Reader} → ReadTo bs xs r → Took r s ys → r.at + length ys ≤ length bs
+read_within {ys = ys} {s = s} p q = omega (arith, read_long p, ap length q.rest_is, length-append ys s.rest.now)
+
+-- fewer than so many bytes are left
+pub read_short : {bs xs : List ℕ} {r : Reader} (width : ℕ) → ReadTo bs xs r → length r.rest.now < width → length bs < r.at + width
+read_short width p h = omega (arith, read_long p)

@@ -37,33 +37,37 @@ pub data Alike : List Item → List Item → Type 0 where
   done : Alike [] []
   more : (i j : Item) {is js : List Item} → Match i j → (i ≡ j → Alike is js) → Alike (i ∷ is) (j ∷ js)
 
-alike_records : {X : Type 0} (f : X → List ℕ) (w : ℕ) → ((x : X) → length (f x) ≡ w) → {R S : List Item} → (xs ys : List X) → length xs ≡ length ys → Alike R S → Alike (flat_map (record_items f) xs ++ R) (flat_map (record_items f) ys ++ S)
-alike_records f w even [] [] l r = r
-alike_records f w even [] (y ∷ ys) l r = absurd (omega arith)
-alike_records f w even (x ∷ xs) [] l r = absurd (omega arith)
-alike_records f w even (x ∷ xs) (y ∷ ys) l r = more (a_record (f x)) (a_record (f y)) (records (f x) (f y) (even x ∙ sym (even y))) (λ _. alike_records f w even xs ys (omega arith) r)
-
 count_is : {m n : ℕ} → a_count m ≡ a_count n → m ≡ n
 count_is e = cc
 
 length_is : {m n : ℕ} → a_length m ≡ a_length n → m ≡ n
 length_is e = cc
 
-alike_section : {X : Type 0} (f : X → List ℕ) (w : ℕ) → ((x : X) → length (f x) ≡ w) → {R S : List Item} (xs ys : List X) → Alike R S → Alike (section_items (record_items f) xs R) (section_items (record_items f) ys S)
-alike_section f w even xs ys r = more (a_count (length xs)) (a_count (length ys)) (counts (length xs) (length ys)) (λ e. alike_records f w even xs ys (count_is e) r)
+-- the items of any two elements match, and what follows them
+abbrev AllAlike : {X : Type 0} → (X → List Item) → Type 0
+AllAlike {X} f = (x y : X) (R S : List Item) → Alike R S → Alike (f x ++ R) (f y ++ S)
 
-alike_texts : (ts us : List (List ℕ)) → length ts ≡ length us → Alike (flat_map text_items ts ++ []) (flat_map text_items us ++ [])
-alike_texts [] [] l = done
-alike_texts [] (u ∷ us) l = absurd (omega arith)
-alike_texts (t ∷ ts) [] l = absurd (omega arith)
-alike_texts (t ∷ ts) (u ∷ us) l = more (a_length (length t)) (a_length (length u)) (lengths (length t) (length u)) (λ e. more (a_text t) (a_text u) (texts t u (length_is e)) (λ _. alike_texts ts us (omega arith)))
+record_alike : {X : Type 0} (f : X → List ℕ) (w : ℕ) → ((x : X) → length (f x) ≡ w) → AllAlike (record_items f)
+record_alike f w even x y R S r = more (a_record (f x)) (a_record (f y)) (records (f x) (f y) (even x ∙ sym (even y))) (λ _. r)
+
+text_alike : AllAlike text_items
+text_alike t u R S r = more (a_length (length t)) (a_length (length u)) (lengths (length t) (length u)) (λ e. more (a_text t) (a_text u) (texts t u (length_is e)) (λ _. r))
+
+alike_elements : {X : Type 0} (f : X → List Item) → AllAlike f → {R S : List Item} (xs ys : List X) → length xs ≡ length ys → Alike R S → Alike (flat_map f xs ++ R) (flat_map f ys ++ S)
+alike_elements f one [] [] l r = r
+alike_elements f one [] (y ∷ ys) l r = absurd (omega arith)
+alike_elements f one (x ∷ xs) [] l r = absurd (omega arith)
+alike_elements f one (x ∷ xs) (y ∷ ys) l r = simp append_assoc (one x y _ _ (alike_elements f one xs ys (omega arith) r))
+
+alike_section : {X : Type 0} (f : X → List Item) → AllAlike f → {R S : List Item} (xs ys : List X) → Alike R S → Alike (section_items f xs R) (section_items f ys S)
+alike_section f one xs ys r = more (a_count (length xs)) (a_count (length ys)) (counts (length xs) (length ys)) (λ e. alike_elements f one xs ys (count_is e) r)
 
 alike_laid : (p q : Parts) → Alike (items_of p) (items_of q)
 alike_laid p q =
-    alike_section activity_bytes 4 (λ a. refl) p.activities q.activities
-    (alike_section link_bytes 2 (λ l. refl) p.links q.links
-    (alike_section connector_bytes 5 (λ c. refl) p.connectors q.connectors
-    (more (a_count (length p.texts)) (a_count (length q.texts)) (counts (length p.texts) (length q.texts)) (λ e. alike_texts p.texts q.texts (count_is e)))))
+    alike_section (record_items activity_bytes) (record_alike activity_bytes 4 (λ a. refl)) p.activities q.activities
+    (alike_section (record_items link_bytes) (record_alike link_bytes 2 (λ l. refl)) p.links q.links
+    (alike_section (record_items connector_bytes) (record_alike connector_bytes 5 (λ c. refl)) p.connectors q.connectors
+    (alike_section text_items text_alike p.texts q.texts done)))
 
 -- two ways to take the same bytes apart
 data Aligned (b1 r1 : List Item) (t1 : List ℕ) (b2 r2 : List Item) (t2 : List ℕ) : Type 0 where

@@ -1,5 +1,6 @@
 -- What a draft holds, and what reading one from bytes answers.
-use Rattle.std.specs.Prelude.{◌≡◌, ℕ, ◌+◌, ◌<◌, ◌≤◌, List, [], map, length, take, Some, None, Ok, Err, Option, Result, slice_index_or}
+use Rattle.std.specs.Prelude.{◌≡◌, ℕ, ◌<◌, ◌≤◌, List, [], map, length, Some, None, Ok, Err, Option, Result, slice_index_or}
+use Rattle.lists.specs.Lists.{items}
 use Rattle.parts.specs.declared.Activity.{Activity}
 use Rattle.parts.specs.declared.Link.{Link}
 use Rattle.parts.specs.declared.Connector.{Connector}
@@ -9,13 +10,13 @@ use Rattle.layout.specs.declared.refusal.LayoutRefusal.{LayoutRefusal}
 use Rattle.layout.specs.Layout.{Parts, WithinLimits, encode}
 use Rattle.layout.specs.Verdicts.{Judged, accepted, refused}
 
--- the elements in the first places, as many as the counts say
+-- the elements of its lists
 abbrev pub parts_of : Draft → Parts
 parts_of d = record {
-  activities = take d.activity_count d.activities;
-  links = take d.link_count d.links;
-  connectors = take d.connector_count d.connectors;
-  texts = map text_bytes (take (d.link_count + d.activity_count) d.texts);
+  activities = items d.activities;
+  links = items d.links;
+  connectors = items d.connectors;
+  texts = map text_bytes (items d.texts);
 }
 
 abbrev pub no_parts : Parts

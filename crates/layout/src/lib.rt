@@ -6,6 +6,7 @@ mod draft;
 mod reader;
 mod refusal;
 mod sections;
+mod shown;
 
 pub use draft::Draft;
 pub use refusal::LayoutRefusal;

@@ -1,11 +1,11 @@
-ghost use Rattle.std.specs.Prelude.{◌≤◌, length};
+ghost use Rattle.std.specs.Prelude.{◌+◌, ◌^◌, ◌<◌, length};
 
 pub mod steps;
 
-/// Bytes, and how many of them are read.
+/// The bytes that are left to read, and how many are read.
 #[derive(Drop)]
 pub struct Reader<'a> {
-    bytes: &'a [u8],
+    rest: &'a [u8],
     at: usize,
-    ghost within: { at ≤ length bytes.now },
+    ghost in_range: { at + length rest.now < 2 ^ 64 },
 }

@@ -1,5 +1,4 @@
-ghost use Rattle.std.specs.Prelude.{◌≡◌};
-ghost use Rattle.layout.specs.Refusals.{cause_of, place_of};
+use refusals::Refusal;
 
 /// Why bytes have not the layout of a definition, with the offset.
 #[derive(Clone, Copy, PartialEq, Eq, Debug)]
@@ -14,10 +13,14 @@ pub enum LayoutRefusal {
     Extra(usize),
 }
 
-impl LayoutRefusal {
-    pub fn cause(&self) -> u16
-        ensures { result ≡ cause_of self.now }
-    {
+impl Refusal for LayoutRefusal {
+    ghost use Rattle.layout.specs.Refusals.{cause_of, place_of};
+
+    ghost cause_number = { cause_of };
+
+    ghost place_number = { place_of };
+
+    fn cause(&self) -> u16 {
         match self {
             LayoutRefusal::Cut(_) => 1,
             LayoutRefusal::Count(_) => 2,
@@ -26,9 +29,7 @@ impl LayoutRefusal {
         }
     }
 
-    pub fn place(&self) -> usize
-        ensures { result ≡ place_of self.now }
-    {
+    fn place(&self) -> usize {
         match self {
             LayoutRefusal::Cut(at)
             | LayoutRefusal::Count(at)

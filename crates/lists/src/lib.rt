@@ -4,4 +4,4 @@
 
 mod list;
 
-pub use list::BoundedList;
+pub use list::{BoundedList, Full};

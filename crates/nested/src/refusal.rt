@@ -1,5 +1,6 @@
-ghost use Rattle.std.specs.Prelude.{◌≡◌};
 ghost use Rattle.nested.specs.Refusals.{cause_of, place_of};
+
+use refusals::Refusal;
 
 /// Why a flow is not nested.
 #[derive(Clone, Copy, PartialEq, Eq, Debug)]
@@ -8,16 +9,16 @@ pub enum NestedRefusal {
     NoResult(usize),
 }
 
-impl NestedRefusal {
-    pub fn cause(&self) -> u16
-        ensures { result ≡ cause_of self.now }
-    {
+impl Refusal for NestedRefusal {
+    ghost cause_number = { cause_of };
+
+    ghost place_number = { place_of };
+
+    fn cause(&self) -> u16 {
         35
     }
 
-    pub fn place(&self) -> usize
-        ensures { result ≡ place_of self.now }
-    {
+    fn place(&self) -> usize {
         let NestedRefusal::NoResult(number) = self;
         *number
     }

@@ -1,7 +1,6 @@
 //! Bytes of rule tables, put together for tests.
 
-/// The most bytes that a test has: those of 65 rows, and one more.
-const PLACES: usize = 6048;
+use std::alloc::{AllocError, Global};
 
 pub(crate) const BLANK: (u8, i64) = (0, 0);
 
@@ -26,49 +25,30 @@ pub(crate) const PLAIN: AnyRow = AnyRow {
     outputs: [BLANK; 8],
 };
 
-#[derive(Drop)]
-pub(crate) struct Bytes {
-    places: [u8; 6048],
-    length: usize,
+impl AnyRow {
+    fn put(&self, bytes: &mut Vec<u8>) -> Result<(), AllocError> {
+        bytes.extend_from_slice(&self.operation.to_le_bytes())?;
+        bytes.push(self.tested)?;
+        bytes.extend_from_slice(&self.low.to_le_bytes())?;
+        bytes.extend_from_slice(&self.high.to_le_bytes())?;
+        bytes.extend_from_slice(&self.fault.to_le_bytes())?;
+        for (tag, value) in &self.outputs {
+            bytes.push(*tag)?;
+            bytes.extend_from_slice(&value.to_le_bytes())?;
+        }
+        Ok(())
+    }
 }
 
-impl Bytes {
-    /// A table's count, with no rows yet.
-    pub(crate) fn count(count: u16) -> Bytes {
-        let mut bytes = Bytes {
-            places: [0; 6048],
-            length: 0,
-        };
-        bytes.put(&count.to_le_bytes());
-        bytes
+/// The bytes of a table: this count, and then the rows.
+pub(crate) fn table_bytes(
+    alloc: Global,
+    count: u16,
+    rows: &[AnyRow],
+) -> Result<Vec<u8>, AllocError> {
+    let mut bytes = count.to_le_bytes().to_vec(alloc)?;
+    for row in rows {
+        row.put(&mut bytes)?;
     }
-
-    pub(crate) fn put(&mut self, part: &[u8]) {
-        for byte in part {
-            if self.length < PLACES {
-                self.places[self.length] = *byte;
-                self.length += 1;
-            }
-        }
-    }
-
-    pub(crate) fn put_row(&mut self, row: &AnyRow) {
-        self.put(&row.operation.to_le_bytes());
-        self.put(&[row.tested]);
-        self.put(&row.low.to_le_bytes());
-        self.put(&row.high.to_le_bytes());
-        self.put(&row.fault.to_le_bytes());
-        for output in &row.outputs {
-            self.put(&[output.0]);
-            self.put(&output.1.to_le_bytes());
-        }
-    }
-
-    pub(crate) fn get(&self) -> &[u8] {
-        if self.length < PLACES {
-            &self.places[0..self.length]
-        } else {
-            &self.places[0..PLACES]
-        }
-    }
+    Ok(bytes)
 }

@@ -1,9 +1,10 @@
-use crate::expected::{Expected, Fields, ask, container, fault};
+use crate::expected::{Expected, Fields, ask, container, fault, retry_of};
 use partners::refusal::LayerRefusal;
 use partners::retry::Retry;
+use refusals::Refusal;
 use std::process::Abort;
 use std::test::Fail;
-use test_partners::listing::Listing;
+use test_partners::listing::{Call, Listing};
 
 pub(crate) const INPUT: Fields = [Some(5), None, None, None, None, None, None, Some(-3)];
 
@@ -15,15 +16,15 @@ pub(crate) fn calls(
     operation: u16,
 ) -> Result<(), Fail> {
     assert_eq!(rt; listing.count(), count);
-    let listed = if count < 16 { count } else { 16 };
+    let call = Call {
+        operation,
+        input: container(&INPUT)?,
+    };
+    let listed = count.min(16);
     for k in 0..listed {
-        let Some(call) = listing.listed(k) else {
-            return Err(Fail::new("not listed"));
-        };
-        assert_eq!(rt; call.operation, operation);
-        assert_eq!(rt; call.input, container(&INPUT)?);
+        assert_eq!(rt; listing.listed(k), Some(call));
     }
-    assert!(rt; listing.listed(listed).is_none());
+    assert_eq!(rt; listing.listed(listed), None);
     Ok(())
 }
 
@@ -36,10 +37,13 @@ fn one_call(
     count: usize,
 ) -> Result<(), Fail> {
     let mut listing = Listing::new(busy, None);
-    match Retry::new(&mut listing, tries) {
-        Ok(mut retry) => ask(rt, &mut retry, 12, &INPUT, expected)?,
-        Err(_) => return Err(Fail::new("refused")),
-    }
+    ask(
+        rt,
+        &mut retry_of(&mut listing, tries)?,
+        12,
+        &INPUT,
+        expected,
+    )?;
     calls(rt, &listing, count, 12)
 }
 
@@ -58,14 +62,12 @@ fn calls_until_something_else_than_busy(rt: HostRuntime) -> Result<(), Fail> {
 #[test]
 fn seven_busy_leave_two(rt: HostRuntime) -> Result<(), Fail> {
     let mut listing = Listing::new(7, None);
-    match Retry::new(&mut listing, 3) {
-        Ok(mut retry) => {
-            ask(&rt, &mut retry, 12, &INPUT, &Expected::Busy)?;
-            ask(&rt, &mut retry, 12, &INPUT, &Expected::Busy)?;
-            ask(&rt, &mut retry, 12, &INPUT, &Expected::Gives(INPUT))?;
-            ask(&rt, &mut retry, 12, &INPUT, &Expected::Gives(INPUT))?;
-        }
-        Err(_) => return Err(Fail::new("refused")),
+    {
+        let mut retry = retry_of(&mut listing, 3)?;
+        ask(&rt, &mut retry, 12, &INPUT, &Expected::Busy)?;
+        ask(&rt, &mut retry, 12, &INPUT, &Expected::Busy)?;
+        ask(&rt, &mut retry, 12, &INPUT, &Expected::Gives(INPUT))?;
+        ask(&rt, &mut retry, 12, &INPUT, &Expected::Gives(INPUT))?;
     }
     calls(&rt, &listing, 9, 12)
 }
@@ -73,28 +75,29 @@ fn seven_busy_leave_two(rt: HostRuntime) -> Result<(), Fail> {
 #[test]
 fn a_fault_ends_the_tries(rt: HostRuntime) -> Result<(), Fail> {
     let mut listing = Listing::new(1, Some(fault(500)?));
-    match Retry::new(&mut listing, 8) {
-        Ok(mut retry) => ask(&rt, &mut retry, 65535, &INPUT, &Expected::Faults(500))?,
-        Err(_) => return Err(Fail::new("refused")),
-    }
+    ask(
+        &rt,
+        &mut retry_of(&mut listing, 8)?,
+        65535,
+        &INPUT,
+        &Expected::Faults(500),
+    )?;
     calls(&rt, &listing, 2, 65535)
 }
 
 #[test]
 fn refused_tries(rt: HostRuntime) -> Result<(), Fail> {
     for tries in [0, 9, usize::MAX] {
-        match Retry::new(Listing::new(1, None), tries) {
-            Ok(_) => return Err(Fail::new("not refused")),
-            Err(refused) => {
-                assert_eq!(rt; refused.refusal, LayerRefusal::Tries(tries));
-                assert_eq!(rt; refused.refusal.cause(), 34);
-                assert_eq!(rt; refused.refusal.place(), tries);
-                let mut listing = refused.partner;
-                ask(&rt, &mut listing, 12, &INPUT, &Expected::Busy)?;
-                ask(&rt, &mut listing, 12, &INPUT, &Expected::Gives(INPUT))?;
-                calls(&rt, &listing, 2, 12)?;
-            }
-        }
+        let refused = Retry::new(Listing::new(1, None), tries)
+            .err()
+            .ok_or("not refused")?;
+        assert_eq!(rt; refused.refusal, LayerRefusal::Tries(tries));
+        assert_eq!(rt; refused.refusal.cause(), 34);
+        assert_eq!(rt; refused.refusal.place(), tries);
+        let mut listing = refused.partner;
+        ask(&rt, &mut listing, 12, &INPUT, &Expected::Busy)?;
+        ask(&rt, &mut listing, 12, &INPUT, &Expected::Gives(INPUT))?;
+        calls(&rt, &listing, 2, 12)?;
     }
     Ok(())
 }

@@ -18,8 +18,8 @@ fn goes(rt: &impl Abort, border: u32, operation: u16, to_first: bool) -> Result<
         let mut router = Router::new(border, &mut first, &mut second);
         ask(rt, &mut router, operation, &INPUT, &expected)?;
     }
-    calls(rt, &first, if to_first { 1 } else { 0 }, operation)?;
-    calls(rt, &second, if to_first { 0 } else { 1 }, operation)
+    calls(rt, &first, usize::from(to_first), operation)?;
+    calls(rt, &second, usize::from(!to_first), operation)
 }
 
 /// A border, an operation, and whether the first partner gets it.

@@ -1,4 +1,4 @@
-use crate::bytes::{AnyRow, BLANK};
+use crate::bytes::{AnyRow, BLANK, PLAIN};
 use crate::expected::{BLANKS, Expected, Fields, ask, table_of};
 use std::test::Fail;
 use tables::table::RuleTable;
@@ -8,82 +8,62 @@ use tables::table::RuleTable;
 const ROWS: [AnyRow; 12] = [
     AnyRow {
         operation: 10,
-        tested: 255,
-        low: 0,
-        high: 0,
-        fault: 0,
         outputs: [(2, 0), BLANK, BLANK, BLANK, BLANK, BLANK, BLANK, (1, 25)],
+        ..PLAIN
     },
     AnyRow {
         operation: 20,
-        tested: 255,
-        low: 0,
-        high: 0,
-        fault: 0,
-        outputs: [BLANK; 8],
+        ..PLAIN
     },
     AnyRow {
         operation: 30,
-        tested: 255,
-        low: 0,
-        high: 0,
-        fault: 0,
         outputs: [BLANK, BLANK, BLANK, BLANK, BLANK, BLANK, BLANK, (1, 40)],
+        ..PLAIN
     },
     AnyRow {
         operation: 40,
-        tested: 255,
-        low: 0,
-        high: 0,
-        fault: 0,
         outputs: [(2, 0), BLANK, BLANK, BLANK, BLANK, BLANK, BLANK, BLANK],
+        ..PLAIN
     },
     AnyRow {
         operation: 50,
         tested: 0,
         low: 100,
         high: 200,
-        fault: 0,
         outputs: [(1, 1), BLANK, BLANK, BLANK, BLANK, BLANK, BLANK, BLANK],
+        ..PLAIN
     },
     AnyRow {
         operation: 50,
         tested: 0,
         low: 150,
         high: 300,
-        fault: 0,
         outputs: [(1, 2), BLANK, BLANK, BLANK, BLANK, BLANK, BLANK, BLANK],
+        ..PLAIN
     },
     AnyRow {
         operation: 50,
-        tested: 255,
-        low: 0,
-        high: 0,
         fault: 17,
-        outputs: [BLANK; 8],
+        ..PLAIN
     },
     AnyRow {
         operation: 60,
         tested: 3,
         low: -10,
         high: -10,
-        fault: 0,
         outputs: [BLANK, BLANK, BLANK, (2, 3), BLANK, BLANK, BLANK, BLANK],
+        ..PLAIN
     },
     AnyRow {
         operation: 70,
         tested: 7,
         low: i64::MIN,
         high: i64::MAX,
-        fault: 0,
         outputs: [(2, 7), BLANK, BLANK, BLANK, BLANK, BLANK, BLANK, BLANK],
+        ..PLAIN
     },
     AnyRow {
         operation: 80,
-        tested: 255,
-        low: 0,
-        high: 0,
-        fault: 0,
         outputs: [
             (2, 7),
             (2, 6),
@@ -94,22 +74,17 @@ const ROWS: [AnyRow; 12] = [
             BLANK,
             (2, 0),
         ],
+        ..PLAIN
     },
     AnyRow {
         operation: 90,
-        tested: 255,
-        low: 0,
-        high: 0,
         fault: 10,
-        outputs: [BLANK; 8],
+        ..PLAIN
     },
     AnyRow {
         operation: 65535,
-        tested: 255,
-        low: 0,
-        high: 0,
         fault: 65535,
-        outputs: [BLANK; 8],
+        ..PLAIN
     },
 ];
 
@@ -128,13 +103,13 @@ const EXAMPLES: [Example; 32] = [
     },
     Example {
         operation: 10,
-        input: [None, None, None, None, None, None, None, None],
+        input: BLANKS,
         answer: Expected::Gives([None, None, None, None, None, None, None, Some(25)]),
     },
     Example {
         operation: 20,
         input: [Some(250), None, None, None, None, None, None, None],
-        answer: Expected::Gives([None, None, None, None, None, None, None, None]),
+        answer: Expected::Gives(BLANKS),
     },
     Example {
         operation: 30,
@@ -197,7 +172,7 @@ const EXAMPLES: [Example; 32] = [
     },
     Example {
         operation: 50,
-        input: [None, None, None, None, None, None, None, None],
+        input: BLANKS,
         answer: Expected::Faults(17),
     },
     Example {
@@ -227,7 +202,7 @@ const EXAMPLES: [Example; 32] = [
     },
     Example {
         operation: 60,
-        input: [None, None, None, None, None, None, None, None],
+        input: BLANKS,
         answer: Expected::Faults(1),
     },
     Example {
@@ -297,7 +272,7 @@ const EXAMPLES: [Example; 32] = [
     },
     Example {
         operation: 70,
-        input: [None, None, None, None, None, None, None, None],
+        input: BLANKS,
         answer: Expected::Faults(1),
     },
     Example {
@@ -325,7 +300,7 @@ const EXAMPLES: [Example; 32] = [
     },
     Example {
         operation: 80,
-        input: [None, None, None, None, None, None, None, None],
+        input: BLANKS,
         answer: Expected::Gives([
             None,
             None,
@@ -344,12 +319,12 @@ const EXAMPLES: [Example; 32] = [
     },
     Example {
         operation: 65535,
-        input: [None, None, None, None, None, None, None, None],
+        input: BLANKS,
         answer: Expected::Faults(65535),
     },
     Example {
         operation: 0,
-        input: [None, None, None, None, None, None, None, None],
+        input: BLANKS,
         answer: Expected::Faults(1),
     },
     Example {
@@ -359,14 +334,14 @@ const EXAMPLES: [Example; 32] = [
     },
     Example {
         operation: 91,
-        input: [None, None, None, None, None, None, None, None],
+        input: BLANKS,
         answer: Expected::Faults(1),
     },
 ];
 
 #[test]
 fn rows_answer(rt: HostRuntime) -> Result<(), Fail> {
-    let mut table = table_of(&rt, &ROWS)?;
+    let mut table = table_of(rt.alloc(), &ROWS)?;
     for example in &EXAMPLES {
         ask(
             &rt,

@@ -1,5 +1,7 @@
-use crate::bytes::{AnyRow, BLANK, Bytes, PLAIN};
+use crate::bytes::{AnyRow, BLANK, PLAIN, table_bytes};
 use crate::expected::{BLANKS, Expected, ask, table_of};
+use refusals::Refusal;
+use std::alloc::{AllocError, Global};
 use std::process::Abort;
 use std::test::Fail;
 use tables::refusal::TableRefusal;
@@ -8,48 +10,44 @@ use tables::table::RuleTable;
 /// A row that tests a field, or none.
 const fn testing(tested: u8, low: i64, high: i64) -> AnyRow {
     AnyRow {
-        operation: 1,
         tested,
         low,
         high,
-        fault: 0,
-        outputs: [BLANK; 8],
+        ..PLAIN
     }
 }
 
 /// A row with a fault, and f7 of its outputs.
 const fn giving(fault: u16, last: (u8, i64)) -> AnyRow {
     AnyRow {
-        operation: 1,
-        tested: 255,
-        low: 0,
-        high: 0,
         fault,
         outputs: [BLANK, BLANK, BLANK, BLANK, BLANK, BLANK, BLANK, last],
+        ..PLAIN
     }
 }
 
-fn refused(rt: &impl Abort, bytes: &Bytes, refusal: TableRefusal) -> Result<(), Fail> {
-    let mut table = table_of(rt, &[giving(99, BLANK)])?;
-    assert_eq!(rt; table.read(bytes.get()), Err(refusal));
+fn refused(
+    rt: &impl Abort,
+    alloc: Global,
+    bytes: &[u8],
+    refusal: TableRefusal,
+) -> Result<(), Fail> {
+    let mut table = table_of(alloc, &[giving(99, BLANK)])?;
+    assert_eq!(rt; table.read(bytes), Err(refusal));
     ask(rt, &mut table, 1, &BLANKS, &Expected::Faults(99))
 }
 
 /// The row is bad, in front of a sound one and behind it.
-fn bad(rt: &impl Abort, row: AnyRow) -> Result<(), Fail> {
-    let mut first = Bytes::count(2);
-    first.put_row(&row);
-    first.put_row(&PLAIN);
-    refused(rt, &first, TableRefusal::BadRow(0))?;
-    let mut second = Bytes::count(2);
-    second.put_row(&PLAIN);
-    second.put_row(&row);
-    refused(rt, &second, TableRefusal::BadRow(1))
+fn bad(rt: &impl Abort, alloc: Global, row: AnyRow) -> Result<(), Fail> {
+    let first = table_bytes(alloc, 2, &[row, PLAIN])?;
+    refused(rt, alloc, &first, TableRefusal::BadRow(0))?;
+    let second = table_bytes(alloc, 2, &[PLAIN, row])?;
+    refused(rt, alloc, &second, TableRefusal::BadRow(1))
 }
 
 /// The row is sound.
-fn sound(rt: &impl Abort, row: AnyRow) -> Result<(), Fail> {
-    let _table = table_of(rt, &[PLAIN, row])?;
+fn sound(alloc: Global, row: AnyRow) -> Result<(), Fail> {
+    let _table = table_of(alloc, &[PLAIN, row])?;
     Ok(())
 }
 
@@ -113,10 +111,10 @@ const BAD_OUTCOMES: [(u16, u8, i64); 17] = [
 #[test]
 fn tested_fields(rt: HostRuntime) -> Result<(), Fail> {
     for (tested, low, high) in SOUND_TESTS {
-        sound(&rt, testing(tested, low, high))?;
+        sound(rt.alloc(), testing(tested, low, high))?;
     }
     for (tested, low, high) in BAD_TESTS {
-        bad(&rt, testing(tested, low, high))?;
+        bad(&rt, rt.alloc(), testing(tested, low, high))?;
     }
     Ok(())
 }
@@ -124,25 +122,21 @@ fn tested_fields(rt: HostRuntime) -> Result<(), Fail> {
 #[test]
 fn faults_and_outputs(rt: HostRuntime) -> Result<(), Fail> {
     for (fault, tag, value) in SOUND_OUTCOMES {
-        sound(&rt, giving(fault, (tag, value)))?;
+        sound(rt.alloc(), giving(fault, (tag, value)))?;
     }
     for (fault, tag, value) in BAD_OUTCOMES {
-        bad(&rt, giving(fault, (tag, value)))?;
+        bad(&rt, rt.alloc(), giving(fault, (tag, value)))?;
     }
     Ok(())
 }
 
-/// A table of so many rows, each the same, but with this one at a place.
-fn with(count: u16, place: u16, row: AnyRow) -> Bytes {
-    let mut bytes = Bytes::count(count);
-    for k in 0..count {
-        if k == place {
-            bytes.put_row(&row);
-        } else {
-            bytes.put_row(&PLAIN);
-        }
+/// A table of so many rows, each the same, but with this one as the last.
+fn ending_in(alloc: Global, count: u16, row: AnyRow) -> Result<Vec<u8>, AllocError> {
+    let mut rows = vec![in alloc; PLAIN; usize::from(count)]?;
+    if let Some(last) = rows.last_mut() {
+        *last = row;
     }
-    bytes
+    table_bytes(alloc, count, &rows)
 }
 
 /// Bytes that are no count and as many rows.
@@ -155,29 +149,24 @@ fn sizes(rt: HostRuntime) -> Result<(), Fail> {
         assert_eq!(rt; table.read(bytes), Err(TableRefusal::Size));
     }
     assert_eq!(rt; table.read(b"\0\0"), Ok(()));
-    assert_eq!(rt; table.read(with(64, 63, PLAIN).get()), Ok(()));
-    refused(&rt, &with(65, 64, PLAIN), TableRefusal::Size)
+    assert_eq!(rt; table.read(&ending_in(rt.alloc(), 64, PLAIN)?), Ok(()));
+    let long = ending_in(rt.alloc(), 65, PLAIN)?;
+    refused(&rt, rt.alloc(), &long, TableRefusal::Size)
 }
 
 #[test]
 fn lowest_bad_row(rt: HostRuntime) -> Result<(), Fail> {
-    refused(
-        &rt,
-        &with(64, 63, giving(9, BLANK)),
-        TableRefusal::BadRow(63),
-    )?;
-    let mut two = Bytes::count(3);
-    two.put_row(&PLAIN);
-    two.put_row(&giving(9, BLANK));
-    two.put_row(&giving(9, BLANK));
-    refused(&rt, &two, TableRefusal::BadRow(1))
+    let one = ending_in(rt.alloc(), 64, giving(9, BLANK))?;
+    refused(&rt, rt.alloc(), &one, TableRefusal::BadRow(63))?;
+    let two = table_bytes(rt.alloc(), 3, &[PLAIN, giving(9, BLANK), giving(9, BLANK)])?;
+    refused(&rt, rt.alloc(), &two, TableRefusal::BadRow(1))
 }
 
 #[test]
 fn a_wrong_size_goes_before_a_bad_row(rt: HostRuntime) -> Result<(), Fail> {
-    let mut long = with(2, 0, giving(9, BLANK));
-    long.put(b"\0");
-    refused(&rt, &long, TableRefusal::Size)
+    let mut long = table_bytes(rt.alloc(), 2, &[giving(9, BLANK), PLAIN])?;
+    long.push(0)?;
+    refused(&rt, rt.alloc(), &long, TableRefusal::Size)
 }
 
 #[test]

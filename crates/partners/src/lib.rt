@@ -7,3 +7,4 @@ pub mod partner;
 pub mod refusal;
 pub mod retry;
 pub mod router;
+pub mod shown;

@@ -6,6 +6,7 @@ use crate::fault::Fault;
 use values::container::Container;
 
 /// What a call of a partner comes back with.
+// No Result: the output is in the caller's place, also after a fault, and busy is neither an output nor a fault.
 #[derive(Clone, Copy, PartialEq, Eq, Debug)]
 pub enum Reply {
     /// The output is in its place.
@@ -22,6 +23,7 @@ pub trait Partner {
 
     ghost busy: { Self → ℕ };
 
+    // Three parameters and no struct of them: a supplier is handed an operation, a container and a place for the output.
     fn call(&mut self, operation: u16, input: &Container, output: &mut Container) -> Reply
         ensures { Called (answers self.old) (answers self.new) (busy self.old) (busy self.new) operation input.now output.new result };
 }

@@ -1,5 +1,6 @@
-ghost use Rattle.std.specs.Prelude.{◌≡◌};
 ghost use Rattle.partners.specs.Refusals.{cause_of, place_of};
+
+use refusals::Refusal;
 
 /// Why a layer is not made.
 #[derive(Clone, Copy, PartialEq, Eq, Debug)]
@@ -9,23 +10,23 @@ pub enum LayerRefusal {
 }
 
 /// Why a layer is not made, and the partner that was handed over for it.
-#[derive(Drop)]
+#[derive(PartialEq, Eq, Debug, Drop)]
 pub struct Refused<R, P> {
     // First, as in a layer: LLVM takes minutes over a large partner that moves between two places.
     pub partner: P,
     pub refusal: R,
 }
 
-impl LayerRefusal {
-    pub fn cause(&self) -> u16
-        ensures { result ≡ cause_of self.now }
-    {
+impl Refusal for LayerRefusal {
+    ghost cause_number = { cause_of };
+
+    ghost place_number = { place_of };
+
+    fn cause(&self) -> u16 {
         34
     }
 
-    pub fn place(&self) -> usize
-        ensures { result ≡ place_of self.now }
-    {
+    fn place(&self) -> usize {
         let LayerRefusal::Tries(tries) = self;
         *tries
     }

@@ -4,7 +4,7 @@ pub mod calls;
 pub mod making;
 
 /// A layer that calls the partner below again while it is busy, up to so many times in all.
-#[derive(Drop)]
+#[derive(PartialEq, Eq, Debug, Drop)]
 pub struct Retry<P> {
     below: P,
     tries: usize,

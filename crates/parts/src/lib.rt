@@ -5,7 +5,7 @@
 ghost use Rattle.parts.specs.Kinds.{HasKind};
 
 /// An activity: its operation, its priority, and its flags.
-#[derive(Clone, Copy, PartialEq, Eq, Debug)]
+#[derive(Clone, Copy, PartialEq, Eq, Default, Debug)]
 pub struct Activity {
     pub operation: u16,
     pub priority: u8,
@@ -13,14 +13,14 @@ pub struct Activity {
 }
 
 /// A link from one activity to another.
-#[derive(Clone, Copy, PartialEq, Eq, Debug)]
+#[derive(Clone, Copy, PartialEq, Eq, Default, Debug)]
 pub struct Link {
     pub source: u8,
     pub target: u8,
 }
 
 /// What a field of an activity's input is taken from.
-#[derive(Clone, Copy, PartialEq, Eq, Debug)]
+#[derive(Clone, Copy, PartialEq, Eq, Default, Debug)]
 pub struct Connector {
     pub target: u8,
     pub target_field: u8,

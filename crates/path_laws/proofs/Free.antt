@@ -1,6 +1,6 @@
 -- Marks on what is listed: what is free by the marks is ready by the list.
-use Rattle.std.proofs.Common.{◌≡◌, ℕ, ◌+◌, ◌<◌, ◌≤◌, Bool, true, false, List, [], ◌∷◌, ◌++◌, length, take, set, replicate, Some, None, sym, refl, ap, ◌∙◌, subst, ⊎_elim, add-one, arith}
-use Rattle.std.proofs.lemmas.List.{get_or-set_same, get_or-set_other, length-set, length-take-le, take_more_set}
+use Rattle.std.proofs.Common.{◌≡◌, ℕ, ◌+◌, ◌<◌, Bool, true, false, List, [], ◌∷◌, ◌++◌, length, set, replicate, Some, None, sym, refl, ap, ◌∙◌, subst, ⊎_elim, add-one, arith}
+use Rattle.std.proofs.lemmas.List.{get_or-set_same, get_or-set_other, length-set, length_push}
 use Rattle.std.proofs.lemmas.Bool.{cases_eq, cases_Bool, both_ways}
 use Rattle.parts.specs.declared.Link.{Link}
 use Rattle.path_laws.specs.Free.{Free, LeastFree, Shows}
@@ -37,34 +37,28 @@ module _ (count : ℕ) (links : List Link) (ranked : List Bool) (order : List �
   none_ready : LeastFree links ranked count None → (a : ℕ) → Ready count links order a → ⊥
   none_ready f a r = f a r.activity (ready_free a r)
 
--- what the ranking loop keeps: the first i places of order hold the first i by rank, and they are marked
+-- what the ranking loop keeps: the list holds the first i by rank, and they are marked
 pub record Kept (count : ℕ) (links : List Link) (ranked : List Bool) (order : List ℕ) (i : ℕ) : Type 0 where
   pub marks : length ranked ≡ 256
-  pub places : length order ≡ 32
-  pub shown : Shows ranked (take i order)
-  pub first : take i order ≡ first_ranked count links i
+  pub long : length order ≡ i
+  pub shown : Shows ranked order
+  pub first : order ≡ first_ranked count links i
 
 module _ (count : ℕ) (links : List Link) where
-  pub kept_none : Kept count links (replicate 256 false) (replicate 32 0) 0
-  kept_none = record { marks = refl; places = refl; shown = shows_none 256; first = refl }
+  pub kept_none : Kept count links (replicate 256 false) [] 0
+  kept_none = record { marks = refl; long = refl; shown = shows_none 256; first = refl }
 
-  pub kept_more : (ranked : List Bool) (order : List ℕ) (i a : ℕ) → i < 32 → a < 256 → Kept count links ranked order i → LeastFree links ranked count (Some a) → Kept count links (set ranked a true) (set order i a) (i + 1)
-  kept_more ranked order i a few l k f =
-      let here : i < length order = omega (arith, k.places) in
-      let pushed : take (i + 1) (set order i a) ≡ take i order ++ a ∷ [] = take_more_set order i a here in
-      let next : one_more count links (take i order) ≡ take i order ++ a ∷ [] = one_more_is count links (take i order) a (least_ready count links ranked (take i order) k.shown a f) in
-      record {
-        marks = length-set ranked a true ∙ k.marks;
-        places = length-set order i a ∙ k.places;
-        shown = subst (λ xs. Shows (set ranked a true) xs) (sym pushed) (shows_push ranked (take i order) a (omega (arith, k.marks)) k.shown);
-        first = pushed ∙ sym next ∙ ap (one_more count links) k.first ∙ ap (first_ranked count links) (sym (add-one i));
-      }
+  pub kept_more : (ranked : List Bool) (order : List ℕ) (i a : ℕ) → a < 256 → Kept count links ranked order i → LeastFree links ranked count (Some a) → Kept count links (set ranked a true) (order ++ a ∷ []) (i + 1)
+  kept_more ranked order i a few k f = record {
+    marks = length-set ranked a true ∙ k.marks;
+    long = omega (arith, length_push order a, k.long);
+    shown = shows_push ranked order a (omega (arith, k.marks)) k.shown;
+    first = sym (one_more_is count links order a (least_ready count links ranked order k.shown a f)) ∙ ap (one_more count links) k.first ∙ ap (first_ranked count links) (sym (add-one i));
+  }
 
-  pub kept_ranks : (ranked : List Bool) (order : List ℕ) → count ≤ 32 → Kept count links ranked order count → Ranks count links (take count order)
-  kept_ranks ranked order few k =
-      let long : length (take count order) ≡ count = length-take-le count order (omega (arith, k.places)) in
-      subst (λ xs. Ranks count links xs) (sym k.first) ((worked_out count links).whole (ap length (sym k.first) ∙ long))
+  pub kept_ranks : (ranked : List Bool) (order : List ℕ) → Kept count links ranked order count → Ranks count links order
+  kept_ranks ranked order k = subst (λ xs. Ranks count links xs) (sym k.first) ((worked_out count links).whole (ap length (sym k.first) ∙ k.long))
 
   -- where none is free before all are ranked, there is no order
   pub none_free : (ranked : List Bool) (order : List ℕ) (i : ℕ) → i < count → Kept count links ranked order i → LeastFree links ranked count None → (xs : List ℕ) → Ranks count links xs → ⊥
-  none_free ranked order i l k f = stuck_no_order count links i l (subst (λ xs. (a : ℕ) → Ready count links xs a → ⊥) k.first (none_ready count links ranked (take i order) k.shown f))
+  none_free ranked order i l k f = stuck_no_order count links i l (subst (λ xs. (a : ℕ) → Ready count links xs a → ⊥) k.first (none_ready count links ranked order k.shown f))

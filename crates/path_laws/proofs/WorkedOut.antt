@@ -9,7 +9,7 @@ pub least_one : (P : ℕ → Type 0) (a b : ℕ) → Least P a → Least P b →
 least_one P a b x y =
     ⊎_elim (λ l. absurd (y.1 a l x.0)) (λ ge. ⊎_elim (λ l. absurd (x.1 b l y.0)) (λ ge'. omega arith) (cases_lt b a)) (cases_lt a b)
 
-abbrev Found : (ℕ → Bool) → ℕ → Option ℕ → Type 0
+abbrev pub Found : (ℕ → Bool) → ℕ → Option ℕ → Type 0
 Found test n (Some a) = (a < n) × (test a ≡ true) × ((b : ℕ) → b < a → test b ≡ false)
 Found test n None = (b : ℕ) → b < n → test b ≡ false
 
@@ -21,7 +21,7 @@ found_more : (test : ℕ → Bool) (n : ℕ) (o : Option ℕ) → Found test n o
 found_more test n (Some a) f = (omega (arith, f.0), f.1, f.2)
 found_more test n None f = found_last test n (test n) refl f
 
-found : (test : ℕ → Bool) (n : ℕ) → Found test n (least_below test n)
+pub found : (test : ℕ → Bool) (n : ℕ) → Found test n (least_below test n)
 found test zero = λ b l. absurd (omega arith)
 found test (suc n) = found_more test n (least_below test n) (found test n)
 

@@ -1,2 +1,4 @@
 pub mod Adding
+pub mod Found
+pub mod Rounds
 pub mod Rows

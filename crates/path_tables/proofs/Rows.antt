@@ -1,6 +1,6 @@
 -- Rows of sets in a list.
-use Rattle.std.proofs.Common.{◌≡◌, ℕ, ◌<◌, ◌≤◌, true, false, ◌⊎◌, List, length, set, replicate, Decides, sym, refl, ap, ◌∙◌, subst, inl, inr, ⊎_elim}
-use Rattle.std.proofs.lemmas.List.{get_or-set_same, get_or-set_other, get_or-replicate, get_or_past, length-replicate}
+use Rattle.std.proofs.Common.{◌≡◌, ℕ, ◌<◌, ◌≤◌, true, false, ◌⊎◌, List, length, get_or, set, replicate, Decides, sym, refl, ap, ◌∙◌, subst, inl, inr, ⊎_elim}
+use Rattle.std.proofs.lemmas.List.{get_or-set_same, get_or-set_other, get_or-replicate, get_or_default, get_or_past, length-replicate}
 use Rattle.std.proofs.lemmas.Bool.{cases_eq, cases_lt}
 use Rattle.path_laws.proofs.Bits.{bit_none}
 use Rattle.path_tables.specs.declared.sets.ActivitySet.{ActivitySet}
@@ -19,6 +19,14 @@ empty_rows n s none a b =
     (λ l. ap (λ x. has x b) (get_or-replicate n a s no_set l) ∙ none b)
     (λ ge. past_rows (replicate n s) a b (rw length-replicate ge))
     (cases_lt a n)
+
+-- a read with another set of none past the end
+pub read_row : (rows : List ActivitySet) (a : ℕ) (none : ActivitySet) → ((b : ℕ) → has none b ≡ false) → (b : ℕ) → has (get_or rows a none) b ≡ has (row_at rows a) b
+read_row rows a none empty b =
+    ⊎_elim
+    (λ l. ap (λ s. has s b) (get_or_default rows a none no_set l))
+    (λ ge. ap (λ s. has s b) (get_or_past rows a none ge) ∙ empty b ∙ sym (past_rows rows a b ge))
+    (cases_lt a (length rows))
 
 pub same_row : (rows : List ActivitySet) (a : ℕ) (s : ActivitySet) (b : ℕ) → a < length rows → has (row_at (set rows a s) a) b ≡ has s b
 same_row rows a s b l = ap (λ x. has x b) (get_or-set_same rows a s no_set l)

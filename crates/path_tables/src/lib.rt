@@ -1,4 +1,5 @@
 //! Sets and pairs of activities, and the table of what each reaches.
+// Links and a count come apart, as a caller has them: a struct of both would ask each caller to make one.
 
 #![tactic(auto)]
 

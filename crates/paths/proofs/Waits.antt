@@ -1,11 +1,13 @@
 -- The free activities, waiting in a pool.
 use Rattle.std.proofs.Common.{◌≡◌, ℕ, ◌+◌, ◌<◌, ◌≤◌, Bool, List, [], ◌∷◌, ◌++◌, length, get_or, Some, Ok, Err, Result, sym, refl, ap, ◌∙◌, subst, ⊎_elim, arith}
+use Rattle.std.specs.Option.{option_map}
+use Rattle.std.specs.Result.{result_ok}
 use Rattle.std.proofs.lemmas.List.{get_or_append_left, get_or_push, get_or_default, length_push}
 use Rattle.std.proofs.lemmas.Bool.{cases_eq, cases_lt}
 use Rattle.pools.specs.declared.kinds.ActivityNumber.{ActivityNumber}
 use Rattle.pools.specs.declared.held.Pool.{Pool}
 use Rattle.pools.specs.declared.refusal.PoolRefusal.{PoolRefusal}
-use Rattle.pools.specs.Contents.{contents, room, Added, AddAnswers}
+use Rattle.pools.specs.Contents.{contents, room, Added, AddAnswers, TakeAnswers}
 use Rattle.pools.specs.Kinds.{number_before}
 use Rattle.parts.specs.declared.Link.{Link}
 use Rattle.path_laws.specs.Free.{Free, LeastFree}
@@ -57,6 +59,11 @@ module _ (links : List Link) (ranked : List Bool) where
       let f = w.free i l in
       let none : (b : ℕ) → b < x.0 → Free links ranked b → ⊥ = λ b h fr. let r = w.all b (omega (arith, f.1, here)) fr in least r.0 zeroth r.1 (omega (arith, r.2)) in
       (omega (arith, f.1, here), (subst (λ (y : ℕ). Free links ranked y) here f.0, none))
+
+  -- so is what is taken, and where nothing is, none is free
+  pub waits_taken : (p q : Pool ActivityNumber) (r : Result ActivityNumber PoolRefusal) (n : ℕ) → TakeAnswers number_before p q r → Waits links ranked (contents p) n → LeastFree links ranked n (option_map (λ x. x.0) (result_ok r))
+  waits_taken p q (Ok x) n t w = let out = t.least_out in waits_least (contents p) n out.at x out.out.within out.out.stood out.least w
+  waits_taken p q (Err e) n t w = λ a l f. let r = w.all a l f in omega (arith, r.1, ap length t.0)
 
 -- an element goes in where a place is free
 pub has_room : {X : Type 0} (p : Pool X) (x : X) (q : Pool X) (r : Result (Unit {0}) PoolRefusal) → AddAnswers p x q r → length (contents p) < room p → Added p x q

@@ -1,12 +1,13 @@
 -- What a ranking holds, and what ranking answers.
-use Rattle.std.specs.Prelude.{◌≡◌, ℕ, ◌<◌, ◌≤◌, ◌⊎◌, List, length, take, Some, None, Option, slice_index}
+use Rattle.std.specs.Prelude.{◌≡◌, ℕ, ◌<◌, ◌≤◌, ◌⊎◌, List, length, Some, None, Option, slice_index}
+use Rattle.lists.specs.Lists.{items}
 use Rattle.parts.specs.declared.Link.{Link}
 use Rattle.paths.specs.declared.order.Ranking.{Ranking}
 use Rattle.path_laws.specs.Ranks.{Ranks}
 
 -- the activities by rank
 abbrev pub order_of : Ranking → List ℕ
-order_of r = take r.count r.order
+order_of r = items r.order
 
 -- what stands at a place of a list, or that the place is past its end
 abbrev pub EntryAt : List ℕ → ℕ → Option ℕ → Type 0

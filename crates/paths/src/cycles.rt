@@ -7,11 +7,5 @@ use parts::Link;
 pub fn least_on_cycle(links: &[Link], count: usize) -> Option<u8>
     ensures { LeastOnCycle links.now count result }
 {
-    for n in 0..count.min(256) {
-        let a = n as u8;
-        if reaches(links, a, a) {
-            return Some(a);
-        }
-    }
-    None
+    (0..=255).take(count).find(|a| reaches(links, *a, *a))
 }

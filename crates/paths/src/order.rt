@@ -1,12 +1,9 @@
-ghost use Rattle.std.specs.Prelude.{◌≡◌, ◌≤◌, length};
+use lists::BoundedList;
 
 mod calls;
 
-/// The activities by rank, in the first `count` places of `order`.
+/// The activities by rank.
 #[derive(Clone, Copy)]
 pub struct Ranking {
-    order: [u8; 32],
-    count: usize,
-    ghost few: { count ≤ 32 },
-    ghost places: { length order ≡ 32 },
+    order: BoundedList<u8, 32>,
 }

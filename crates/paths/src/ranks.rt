@@ -1,32 +1,31 @@
-ghost use Rattle.std.specs.Prelude.{◌≡◌, ◌≤◌, true, length, is_some, Decides};
+ghost use Rattle.std.specs.Prelude.{◌≡◌, ◌≤◌, true, is_some, Decides};
 ghost use Rattle.path_laws.specs.Free.{Free, LeastFree};
 ghost use Rattle.path_laws.specs.Paths.{EndsBelow, NoCycle};
 ghost use Rattle.path_laws.specs.Ranks.{OneOrder, OrderExists, PathsLeadForward, WorkedOut};
 ghost use Rattle.paths.specs.Rankings.{RankAnswers};
 
+use crate::marks::Marks;
 use crate::order::Ranking;
+use lists::BoundedList;
 use parts::Link;
 use pools::{ActivityNumber, Pool};
 
 /// Whether an activity is not ranked, while the sources of all links into it are.
-fn is_free(links: &[Link], ranked: &[bool], a: u8) -> bool
-    requires { length ranked.now ≡ 256 }
-    ensures { Decides result (Free links.now ranked.now a) }
+fn is_free(links: &[Link], ranked: &Marks, a: u8) -> bool
+    ensures { Decides result (Free links.now ranked.now.marks a) }
 {
-    for link in links {
-        if link.target == a && !ranked[link.source as usize] {
-            return false;
-        }
-    }
-    !ranked[a as usize]
+    !ranked.has(a)
+        && links
+            .iter()
+            .all(|link| link.target != a || ranked.has(link.source))
 }
 
 /// The least activity that is free.
-fn least_free(links: &[Link], ranked: &[bool], count: u8) -> Option<u8>
-    requires marks { length ranked.now ≡ 256 }
-    requires few { count ≤ 32 }
-    ensures { LeastFree links.now ranked.now count result }
+fn least_free(links: &[Link], ranked: &Marks, count: u8) -> Option<u8>
+    requires { count ≤ 32 }
+    ensures { LeastFree links.now ranked.now.marks count result }
 {
+    // The least comes out of a pool, as a runner's next work item does.
     let mut places = [ActivityNumber(0); 32];
     let mut free = Pool::new(&mut places);
     for a in 0..count {
@@ -35,13 +34,11 @@ fn least_free(links: &[Link], ranked: &[bool], count: u8) -> Option<u8>
             let _ = free.add(ActivityNumber(a));
         }
     }
-    match free.take_least() {
-        Ok(least) => Some(least.0),
-        Err(_) => None,
-    }
+    free.take_least().ok().map(|least| least.0)
 }
 
 /// The activities below `count` by rank: the least of those whose link sources are all ranked comes next.
+#[tactic(auto, using(path_laws::proofs::Orders::worked_out, path_laws::proofs::NeverStuck::order_exists))]
 pub fn rank(links: &[Link], count: usize) -> Option<Ranking>
     ensures answer { RankAnswers count links.now result }
     ensures some { count ≤ 32 → EndsBelow links.now count → NoCycle links.now count → is_some result ≡ true }
@@ -53,12 +50,12 @@ pub fn rank(links: &[Link], count: usize) -> Option<Ranking>
     if count > 32 {
         return None;
     }
-    let mut ranked = [false; 256];
-    let mut order = [0; 32];
-    for i in 0..count {
-        let a = least_free(links, &ranked, count as u8)?;
-        ranked[a as usize] = true;
-        order[i] = a;
+    let mut ranked = Marks::none();
+    let mut order = BoundedList::new(0);
+    for _ in 0..count {
+        let next = least_free(links, &ranked, count as u8)?;
+        ranked.add(next);
+        order.push(next).ok()?;
     }
-    Some(Ranking::new(order, count))
+    Some(Ranking::new(order))
 }

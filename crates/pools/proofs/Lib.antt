@@ -1,3 +1,2 @@
-pub mod Least
 pub mod Rising
 pub mod Shift

@@ -5,8 +5,10 @@ ghost use Rattle.std.proofs.Common.{rules};
 use crate::order::{Ordered, TellsApart};
 
 /// The number of an activity.
-#[derive(Clone, Copy, PartialEq, Eq, Debug)]
+#[derive(Clone, Copy, PartialEq, Eq, PartialOrd, Ord, Debug)]
 pub struct ActivityNumber(pub u8);
+
+// An impl for each kind states its order in its own numbers. One impl for all that have `Ord` would state it by `cmp` alone, and such a kind could have no other order in a pool.
 
 /// Activity numbers by size.
 impl Ordered for ActivityNumber {
@@ -21,7 +23,7 @@ impl Ordered for ActivityNumber {
     fn is_before(&self, other: &ActivityNumber) -> bool
         ensures { Decides result (self.now.0 < other.now.0) }
     {
-        self.0 < other.0
+        self < other
     }
 }
 
@@ -30,7 +32,7 @@ impl TellsApart for ActivityNumber {
 }
 
 /// An activity that is ready to be worked on, with its priority.
-#[derive(Clone, Copy, PartialEq, Eq, Debug)]
+#[derive(Clone, Copy, PartialEq, Eq, PartialOrd, Ord, Debug)]
 pub struct WorkItem {
     pub priority: u8,
     pub activity: u8,
@@ -49,8 +51,7 @@ impl Ordered for WorkItem {
     fn is_before(&self, other: &WorkItem) -> bool
         ensures { Decides result ((self.now.priority < other.now.priority) ⊎ ((self.now.priority ≡ other.now.priority) × (self.now.activity < other.now.activity))) }
     {
-        self.priority < other.priority
-            || self.priority == other.priority && self.activity < other.activity
+        *self < *other
     }
 }
 

@@ -1,5 +1,6 @@
-ghost use Rattle.std.specs.Prelude.{◌≡◌};
 ghost use Rattle.pools.specs.Refusals.{cause_of, place_of};
+
+use refusals::Refusal;
 
 /// Why a pool does not do what it is asked.
 #[derive(Clone, Copy, PartialEq, Eq, Debug)]
@@ -10,19 +11,19 @@ pub enum PoolRefusal {
     Empty,
 }
 
-impl PoolRefusal {
-    pub fn cause(&self) -> u16
-        ensures { result ≡ cause_of self.now }
-    {
+impl Refusal for PoolRefusal {
+    ghost cause_number = { cause_of };
+
+    ghost place_number = { place_of };
+
+    fn cause(&self) -> u16 {
         match self {
             PoolRefusal::Full(_) => 37,
             PoolRefusal::Empty => 38,
         }
     }
 
-    pub fn place(&self) -> usize
-        ensures { result ≡ place_of self.now }
-    {
+    fn place(&self) -> usize {
         match self {
             PoolRefusal::Full(places) => *places,
             PoolRefusal::Empty => 0,

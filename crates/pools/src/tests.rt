@@ -1,6 +1,7 @@
 use crate::held::Pool;
 use crate::kinds::{ActivityNumber, WorkItem};
 use crate::refusal::PoolRefusal;
+use refusals::Refusal;
 use std::test::Fail;
 
 #[test]
@@ -28,11 +29,11 @@ fn one_place_full_empty_and_refilled(rt: HostRuntime) -> Result<(), Fail> {
 fn thirty_two_places(rt: HostRuntime) -> Result<(), Fail> {
     let mut places = [ActivityNumber(0); 32];
     let mut pool = Pool::new(&mut places);
-    for n in 0..32u8 {
-        pool.add(ActivityNumber(31 - n))?;
+    for n in (0..32).rev() {
+        pool.add(ActivityNumber(n))?;
     }
     assert_eq!(rt; pool.add(ActivityNumber(0)), Err(PoolRefusal::Full(32)));
-    for n in 0..32u8 {
+    for n in 0..32 {
         assert_eq!(rt; pool.take_least(), Ok(ActivityNumber(n)));
     }
     assert_eq!(rt; pool.take_least(), Err(PoolRefusal::Empty));

@@ -1,5 +1,5 @@
 -- What is worked out is a reading: at every stage the symbols so far are parts that the grammar reads.
-use Rattle.std.proofs.Common.{◌≡◌, ℕ, suc, Bool, true, false, cond, List, [], ◌∷◌, ◌++◌, Some, None, Option, sym, refl, ap, ◌∙◌, subst, append_assoc, append-nil, arith}
+use Rattle.std.proofs.Common.{◌≡◌, ℕ, suc, Bool, true, false, cond, List, [], ◌∷◌, ◌++◌, Some, None, Option, sym, refl, ap, ◌∙◌, subst, append_assoc, append-nil}
 use mathlib.Core.Path.{subst⁻¹}
 use Rattle.values.specs.declared.amount.Comparison.{Comparison}
 use Rattle.grammar.specs.Symbols.{Operand, Symbol, or_word, and_word, not_word, truth_word, opening, closing, operand, sign, link_word, bad}
@@ -191,19 +191,16 @@ after_next k (operand_wanted x c f outer) used h s = after_operand_wanted k x c 
 after_next k (factor_ended o t outer) used h s = after_factor_ended k o t outer used h s
 after_next k failed used h s = tt
 
-none_some : {t : Tree} → None ≡ Some t → ⊥
-none_some e = let z : ◌≡◌ {A = ℕ} 0 1 = cc in omega arith
-
 whole : (k : Kind) (g : Stage) (used : List Symbol) (t : Tree) → At k g used → condition_of g ≡ Some t → Reads k condition used t
-whole k (factor_wanted f outer) used t h e = absurd (none_some e)
-whole k (sign_wanted x f outer) used t h e = absurd (none_some e)
-whole k (operand_wanted x c f outer) used t h e = absurd (none_some e)
+whole k (factor_wanted f outer) used t h e = cc
+whole k (sign_wanted x f outer) used t h e = cc
+whole k (operand_wanted x c f outer) used t h e = cc
 whole k (factor_ended o u []) used t h e =
     let same : joined disjunction o u ≡ t = cc in
     let all : used ≡ h.us ++ h.vs = h.split ∙ ap (λ x. x ++ (h.us ++ h.vs)) h.outer in
     subst (Reads k condition used) same (subst⁻¹ (λ x. Reads k condition x (joined disjunction o u)) all (inner h))
-whole k (factor_ended o u (f ∷ outer)) used t h e = absurd (none_some e)
-whole k failed used t h e = absurd (none_some e)
+whole k (factor_ended o u (f ∷ outer)) used t h e = cc
+whole k failed used t h e = cc
 
 reads_back : (k : Kind) (g : Stage) (used ss : List Symbol) (t : Tree) → At k g used → condition_of (read_on k g ss) ≡ Some t → Reads k condition (used ++ ss) t
 reads_back k g used [] t h e = rw append-nil (whole k g used t h e)

@@ -1,6 +1,5 @@
 -- The value of a reading, by the tests that it can have, and what weighing answers.
 use Rattle.std.proofs.Common.{◌≡◌, true, List, Some, None, Option, sym, refl, ap, ◌∙◌, ap₂}
-use Rattle.std.proofs.lemmas.Bool.{false≢true}
 use Rattle.grammar.specs.Symbols.{Symbol}
 use Rattle.grammar.specs.Grammar.{Kind, join, Test, Tree, Level, Reads, one_term, or_term, one_factor, and_factor, of_not, of_parentheses, of_truth, of_comparison, of_link}
 use Rattle.conditions.specs.Truths.{Truth, negated, both, either, holds}
@@ -50,7 +49,7 @@ pub holds_weighed : HoldsWeighed
 holds_weighed k tests text h = go (reading_of k text) refl h
   where
     go : (o : Option Tree) → reading_of k text ≡ o → holding o tests ≡ true → Holding k tests text true
-    go None e b = absurd (false≢true b)
+    go None e b = cc
     go (Some t) e b = record { tree = t; reads = worked_out_reads k text t e; answer_is = sym b }
 
 pub join_holding_is : JoinHoldingIs

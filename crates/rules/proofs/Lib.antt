@@ -1,3 +1,6 @@
 pub mod Ends
-pub mod Incoming
+pub mod Faults
+pub mod Into
+pub mod Linked
+pub mod Taken
 pub mod Turns

@@ -1,5 +1,5 @@
 -- From one check to the next.
-use Rattle.std.proofs.Common.{◌≡◌, ℕ, ◌+◌, ◌*◌, ◌≤◌, [], get_or, sym, refl, ap, ◌∙◌, subst, inl, inr, ⊎_elim, arith}
+use Rattle.std.proofs.Common.{◌≡◌, ℕ, ◌+◌, ◌≤◌, [], get_or, sym, refl, ap, ◌∙◌, subst, inl, inr, ⊎_elim, arith}
 use Rattle.std.proofs.lemmas.Bool.{cases_lt, cases_eq}
 use Rattle.conditions.specs.Texts.{FaultPlace}
 use Rattle.conditions.proofs.Whole.{one_verdict}
@@ -9,61 +9,17 @@ use Rattle.rules.specs.declared.refusal.RuleRefusal.TheVariants.{Flags, NoEnd, T
 use Rattle.rules.specs.Rules.{Broken, kind_of_text, stage, turn, Clear, FirstBroken, OneRule}
 
 -- two refusals of one stage and turn are the same, where both rules are broken: a text has one fault
-even_odd : (i j : ℕ) → 2 * i ≡ 2 * j + 1 → ⊥
-even_odd i j e = omega arith
-
 pub same_turn : (p : Parts) (d e : RuleRefusal) → stage d ≡ stage e → turn d ≡ turn e → Broken p d → Broken p e → d ≡ e
 same_turn p (Flags i) (Flags j) s t b c = ap Flags t
-same_turn p (Flags i) (NoEnd j) s t b c = absurd (omega arith)
-same_turn p (Flags i) (Twice j) s t b c = absurd (omega arith)
-same_turn p (Flags i) (Cycle j) s t b c = absurd (omega arith)
-same_turn p (Flags i) (BadConnector j) s t b c = absurd (omega arith)
-same_turn p (Flags i) (NoPath j) s t b c = absurd (omega arith)
-same_turn p (Flags i) (BadText j q) s t b c = absurd (omega arith)
-same_turn p (NoEnd i) (Flags j) s t b c = absurd (omega arith)
 same_turn p (NoEnd i) (NoEnd j) s t b c = ap NoEnd (omega arith)
-same_turn p (NoEnd i) (Twice j) s t b c = absurd (even_odd i j t)
-same_turn p (NoEnd i) (Cycle j) s t b c = absurd (omega arith)
-same_turn p (NoEnd i) (BadConnector j) s t b c = absurd (omega arith)
-same_turn p (NoEnd i) (NoPath j) s t b c = absurd (omega arith)
-same_turn p (NoEnd i) (BadText j q) s t b c = absurd (omega arith)
-same_turn p (Twice i) (Flags j) s t b c = absurd (omega arith)
-same_turn p (Twice i) (NoEnd j) s t b c = absurd (even_odd j i (sym t))
 same_turn p (Twice i) (Twice j) s t b c = ap Twice (omega arith)
-same_turn p (Twice i) (Cycle j) s t b c = absurd (omega arith)
-same_turn p (Twice i) (BadConnector j) s t b c = absurd (omega arith)
-same_turn p (Twice i) (NoPath j) s t b c = absurd (omega arith)
-same_turn p (Twice i) (BadText j q) s t b c = absurd (omega arith)
-same_turn p (Cycle i) (Flags j) s t b c = absurd (omega arith)
-same_turn p (Cycle i) (NoEnd j) s t b c = absurd (omega arith)
-same_turn p (Cycle i) (Twice j) s t b c = absurd (omega arith)
 same_turn p (Cycle i) (Cycle j) s t b c = ap Cycle t
-same_turn p (Cycle i) (BadConnector j) s t b c = absurd (omega arith)
-same_turn p (Cycle i) (NoPath j) s t b c = absurd (omega arith)
-same_turn p (Cycle i) (BadText j q) s t b c = absurd (omega arith)
-same_turn p (BadConnector i) (Flags j) s t b c = absurd (omega arith)
-same_turn p (BadConnector i) (NoEnd j) s t b c = absurd (omega arith)
-same_turn p (BadConnector i) (Twice j) s t b c = absurd (omega arith)
-same_turn p (BadConnector i) (Cycle j) s t b c = absurd (omega arith)
 same_turn p (BadConnector i) (BadConnector j) s t b c = ap BadConnector (omega arith)
-same_turn p (BadConnector i) (NoPath j) s t b c = absurd (even_odd i j t)
-same_turn p (BadConnector i) (BadText j q) s t b c = absurd (omega arith)
-same_turn p (NoPath i) (Flags j) s t b c = absurd (omega arith)
-same_turn p (NoPath i) (NoEnd j) s t b c = absurd (omega arith)
-same_turn p (NoPath i) (Twice j) s t b c = absurd (omega arith)
-same_turn p (NoPath i) (Cycle j) s t b c = absurd (omega arith)
-same_turn p (NoPath i) (BadConnector j) s t b c = absurd (even_odd j i (sym t))
 same_turn p (NoPath i) (NoPath j) s t b c = ap NoPath (omega arith)
-same_turn p (NoPath i) (BadText j q) s t b c = absurd (omega arith)
-same_turn p (BadText i r) (Flags j) s t b c = absurd (omega arith)
-same_turn p (BadText i r) (NoEnd j) s t b c = absurd (omega arith)
-same_turn p (BadText i r) (Twice j) s t b c = absurd (omega arith)
-same_turn p (BadText i r) (Cycle j) s t b c = absurd (omega arith)
-same_turn p (BadText i r) (BadConnector j) s t b c = absurd (omega arith)
-same_turn p (BadText i r) (NoPath j) s t b c = absurd (omega arith)
 same_turn p (BadText i r) (BadText j q) s t b c =
     let one = (one_verdict (get_or p.texts j [])).one_fault (kind_of_text p.links j) r q (subst (λ k. FaultPlace (kind_of_text p.links k) (get_or p.texts k []) r) t b.1) c.1 in
     λ z. BadText (t z) (one z)
+same_turn p d e s t b c = absurd (omega arith)
 
 -- one turn more
 pub next_clear : (p : Parts) (e e' : RuleRefusal) → stage e' ≡ stage e → turn e' ≡ turn e + 1 → Clear p e → ((d : RuleRefusal) → stage d ≡ stage e → turn d ≡ turn e → Broken p d → ⊥) → Clear p e'
@@ -107,10 +63,5 @@ pub text_clear : (p : Parts) (i : ℕ) → Clear p (BadText i 0) → ((place : �
 text_clear p i clear fine = next_clear p (BadText i 0) (BadText (i + 1) 0) refl refl clear here
   where
     here : (d : RuleRefusal) → stage d ≡ 5 → turn d ≡ i → Broken p d → ⊥
-    here (Flags j) s t b = omega arith
-    here (NoEnd j) s t b = omega arith
-    here (Twice j) s t b = omega arith
-    here (Cycle j) s t b = omega arith
-    here (BadConnector j) s t b = omega arith
-    here (NoPath j) s t b = omega arith
     here (BadText j q) s t b = fine q (subst (λ k. Broken p (BadText k q)) t b)
+    here d s t b = omega arith

@@ -28,6 +28,10 @@ Sourced n c = ((c.kind ≡ 1) × (c.source ≡ 0)) ⊎ ((c.kind ≡ 2) × (c.sou
 abbrev pub TakenBefore : List Connector → ℕ → Type 0
 TakenBefore cs i = (k : ℕ) × (k < i) × ((connector_at cs k).target ≡ (connector_at cs i).target) × ((connector_at cs k).target_field ≡ (connector_at cs i).target_field)
 
+-- one of these connectors has the target activity and field of a connector
+abbrev pub TakenIn : List Connector → Connector → Type 0
+TakenIn cs c = (k : ℕ) × (k < length cs) × ((connector_at cs k).target ≡ c.target) × ((connector_at cs k).target_field ≡ c.target_field)
+
 -- what a connector names is there, among so many activities
 pub record Named (n : ℕ) (c : Connector) : Type 0 where
   pub target_is : c.target < n

@@ -8,13 +8,17 @@ ghost use Rattle.rules.specs.Rules.{RulesChecked, OneRule};
 use layout::Draft;
 
 mod connectors;
+mod joins;
 mod links;
 mod refusal;
+mod shown;
 mod texts;
 
+pub use joins::incoming;
 pub use refusal::RuleRefusal;
 
 /// Whether a draft keeps all the rules: flags, then links one by one, cycles, connectors one by one, and texts.
+#[tactic(auto, using(crate::proofs::Turns::one_rule))]
 pub fn check(draft: &Draft) -> Result<(), RuleRefusal>
     ensures verdict { RulesChecked (parts_of draft.now) result }
     ensures one { OneRule (parts_of draft.now) }

@@ -1,5 +1,6 @@
-ghost use Rattle.std.specs.Prelude.{◌≡◌};
 ghost use Rattle.rules.specs.Rules.{cause_of, place_of};
+
+use refusals::Refusal;
 
 /// Which rule a definition breaks first, and at which item.
 #[derive(Clone, Copy, PartialEq, Eq, Debug)]
@@ -20,10 +21,12 @@ pub enum RuleRefusal {
     BadText(u8, u8),
 }
 
-impl RuleRefusal {
-    pub fn cause(&self) -> u16
-        ensures { result ≡ cause_of self.now }
-    {
+impl Refusal for RuleRefusal {
+    ghost cause_number = { cause_of };
+
+    ghost place_number = { place_of };
+
+    fn cause(&self) -> u16 {
         match self {
             RuleRefusal::Flags(_) => 5,
             RuleRefusal::NoEnd(_) => 6,
@@ -36,17 +39,15 @@ impl RuleRefusal {
     }
 
     /// The number of the activity, link or connector; of a text, its number times 256 plus the place in it.
-    pub fn place(&self) -> usize
-        ensures { result ≡ place_of self.now }
-    {
+    fn place(&self) -> usize {
         match self {
-            RuleRefusal::Flags(i) => *i,
-            RuleRefusal::NoEnd(i) => *i,
-            RuleRefusal::Twice(i) => *i,
-            RuleRefusal::Cycle(i) => *i,
-            RuleRefusal::BadConnector(i) => *i,
-            RuleRefusal::NoPath(i) => *i,
-            RuleRefusal::BadText(i, place) => *i as usize * 256 + *place as usize,
+            RuleRefusal::Flags(i)
+            | RuleRefusal::NoEnd(i)
+            | RuleRefusal::Twice(i)
+            | RuleRefusal::Cycle(i)
+            | RuleRefusal::BadConnector(i)
+            | RuleRefusal::NoPath(i) => *i,
+            RuleRefusal::BadText(i, place) => usize::from(*i) * 256 + usize::from(*place),
         }
     }
 }

@@ -1,56 +1,31 @@
 -- The widths of what a row is made of, and that no two rows have one encoding.
-use Rattle.std.proofs.Common.{◌≡◌, ℕ, ◌*◌, ◌/◌, ◌%◌, ◌^◌, ◌<◌, ◌≤◌, List, [], ◌∷◌, ◌++◌, length, get_or, take, drop, replicate, ℤ, pos, ◌≤ℤ◌, sym, refl, ap, ◌∙◌, arith, length-append, length-drop, take-append-drop, w64, SFits}
+use Rattle.std.proofs.Common.{◌≡◌, ℕ, ◌/◌, ◌%◌, ◌^◌, ◌<◌, ◌≤◌, List, ◌∷◌, ◌++◌, length, take, drop, replicate, ℤ, pos, ◌≤ℤ◌, Some, None, Ok, Err, Option, Result, sym, refl, ap, ◌∙◌, arith, take-append-drop, w64, SFits}
 use mathlib.Core.HLevel.{is_prop→PathP}
 use native.Mathlib.Bridge.{le_prop}
 use native.Mathlib.Nat.{ℕ_set}
 use lib.Dec.{T_prop}
 use lib.Signed.{le_z, mag}
-use Rattle.std.proofs.lemmas.List.{take_at, drop_at, take_all, drop-drop}
+use Rattle.std.proofs.lemmas.List.{take_at, drop_at}
 use Rattle.values.specs.declared.field.Field.TheVariants.{Blank, Number}
 use Rattle.values.specs.declared.field.FieldNumber.{FieldNumber}
 use Rattle.values.specs.Layout.{signed_bytes, tagged}
 use Rattle.values.specs.Same.{same_number}
-use Rattle.values.proofs.Encodings.{signed_same, same_field, wide_field}
-use Rattle.values.proofs.Records.{length_joined, same_from_joined}
+use Rattle.values.proofs.Encodings.{signed_same, same_field}
+use Rattle.values.proofs.Records.{same_from_joined}
 use Rattle.partners.specs.Answers.{fault_code}
 use Rattle.partners.proofs.Same.{same_fault}
 use Rattle.tables.specs.declared.source.Source.{Source}
 use Rattle.tables.specs.declared.source.Source.TheVariants.{Given, Copied}
 use Rattle.tables.specs.declared.outputs.Outputs.{Outputs}
 use Rattle.tables.specs.declared.fit.Span.{Span}
-use Rattle.tables.specs.declared.fit.Fit.{Fit}
-use Rattle.tables.specs.declared.fit.Fit.TheVariants.{Always, Within}
 use Rattle.tables.specs.declared.outcome.RowFault.{RowFault}
-use Rattle.tables.specs.declared.outcome.Outcome.{Outcome}
-use Rattle.tables.specs.declared.outcome.Outcome.TheVariants.{Fault, Output}
 use Rattle.tables.specs.declared.row.Row.{Row}
-use Rattle.tables.proofs.Pieces.{two_and_rest}
+use Rattle.tables.specs.Widths.{wide_source, wide_fit}
 use Rattle.tables.specs.Layout.{two_bytes, source_bytes, outputs_bytes, fit_bytes, outcome_bytes, row_bytes}
 
-pub wide_source : (s : Source) → length (source_bytes s) ≡ 9
-wide_source (Given f) = wide_field f
-wide_source (Copied n) = refl
-
-pub wide_outputs : (o : Outputs) → length (outputs_bytes o) ≡ 72
-wide_outputs o = length_joined source_bytes 9 wide_source o.sources ∙ ap (λ n. 9 * n) o.eight
-
-pub wide_fit : (f : Fit) → length (fit_bytes f) ≡ 17
-wide_fit Always = refl
-wide_fit (Within s) = refl
-
-pub wide_outcome : (o : Outcome) → length (outcome_bytes o) ≡ 74
-wide_outcome (Fault f) = refl
-wide_outcome (Output o) = omega (arith, wide_outputs o)
-
-pub wide_row : (r : Row) → length (row_bytes r) ≡ 93
-wide_row r = omega (arith, length-append (fit_bytes r.fit) (outcome_bytes r.outcome), wide_fit r.fit, wide_outcome r.outcome)
-
 -- two pieces of known width
-pub first_same : (n : ℕ) (a b x y : List ℕ) → length a ≡ n → length x ≡ n → a ++ b ≡ x ++ y → a ≡ x
-first_same n a b x y la lx e = sym (take_at a b n la) ∙ ap (take n) e ∙ take_at x y n lx
-
-pub second_same : (n : ℕ) (a b x y : List ℕ) → length a ≡ n → length x ≡ n → a ++ b ≡ x ++ y → b ≡ y
-second_same n a b x y la lx e = sym (drop_at a b n la) ∙ ap (drop n) e ∙ drop_at x y n lx
+pub parts_same : (n : ℕ) (a b x y : List ℕ) → length a ≡ n → length x ≡ n → a ++ b ≡ x ++ y → (a ≡ x) × (b ≡ y)
+parts_same n a b x y la lx e = (sym (take_at a b n la) ∙ ap (take n) e ∙ take_at x y n lx, sym (drop_at a b n la) ∙ ap (drop n) e ∙ drop_at x y n lx)
 
 head_same : (a b : ℕ) (xs ys : List ℕ) → a ∷ xs ≡ b ∷ ys → a ≡ b
 head_same a b xs ys e = cc
@@ -68,25 +43,18 @@ no_code : (f : RowFault) → fault_code f.fault ≡ 0 → ⊥
 no_code f e = omega (arith, f.from_ten)
 
 -- bytes that begin with the code 0 and go on as no outputs are no outcome's
-pub no_outcome : (bs : List ℕ) → length bs ≡ 74 → (get_or bs 0 0 ∷ get_or bs 1 0 ∷ []) ≡ two_bytes 0 → ((o : Outputs) → take 72 (drop 2 bs) ≡ outputs_bytes o → ⊥) → (x : Outcome) → bs ≡ outcome_bytes x → ⊥
-no_outcome bs long zero none (Fault f) e =
-    let code : two_bytes (fault_code f.fault) ≡ two_bytes 0 = sym (ap (λ (l : List ℕ). get_or l 0 0 ∷ get_or l 1 0 ∷ []) e) ∙ zero in
-    no_code f (two_same (fault_code f.fault) 0 code)
-no_outcome bs long zero none (Output o) e = none o (ap (λ l. take 72 (drop 2 l)) e ∙ take_all 72 (outputs_bytes o) (omega (arith, wide_outputs o)))
+pub no_outcome : (bs rest : List ℕ) → bs ≡ two_bytes 0 ++ rest → ((o : Outputs) → rest ≡ outputs_bytes o → ⊥) → (x : Result Outputs RowFault) → bs ≡ outcome_bytes x → ⊥
+no_outcome bs rest e none (Err f) q = no_code f (two_same _ 0 (parts_same 2 (two_bytes (fault_code f.fault)) (replicate 72 0) (two_bytes 0) rest refl refl (sym q ∙ e)).0)
+no_outcome bs rest e none (Ok o) q = none o (parts_same 2 (two_bytes 0) rest (two_bytes 0) (outputs_bytes o) refl refl (sym e ∙ q)).1
 
--- what stands in the places of a row's parts
-pub outcome_piece : (bs : List ℕ) (r : Row) → bs ≡ row_bytes r → take 74 (drop 19 bs) ≡ outcome_bytes r.outcome
-outcome_piece bs r e =
-    ap (λ l. take 74 (drop 19 l)) e
-    ∙ ap (take 74) (sym (drop-drop 17 2 (row_bytes r)) ∙ drop_at (fit_bytes r.fit) (outcome_bytes r.outcome) 17 (wide_fit r.fit))
-    ∙ take_all 74 (outcome_bytes r.outcome) (omega (arith, wide_outcome r.outcome))
+-- bytes in the three parts of a row
+pub three_parts : (bs operation rest fit outcome : List ℕ) → operation ≡ take 2 bs → rest ≡ drop 2 bs → fit ≡ take 17 rest → outcome ≡ drop 17 rest → bs ≡ operation ++ (fit ++ outcome)
+three_parts bs operation rest fit outcome o r f u =
+    sym (take-append-drop 2 bs) ∙ (λ i. sym o i ++ sym r i) ∙ ap (λ l. operation ++ l) (sym (take-append-drop 17 rest) ∙ (λ i. sym f i ++ sym u i))
 
-pub row_from_pieces : (bs : List ℕ) (r : Row) → length bs ≡ 93 → two_bytes r.operation ≡ get_or bs 0 0 ∷ get_or bs 1 0 ∷ [] → take 17 (drop 2 bs) ≡ fit_bytes r.fit → take 74 (drop 19 bs) ≡ outcome_bytes r.outcome → bs ≡ row_bytes r
-row_from_pieces bs r long operation fit outcome =
-    let rest = drop 2 bs in
-    let last : drop 17 rest ≡ outcome_bytes r.outcome = drop-drop 17 2 bs ∙ sym (take_all 74 (drop 19 bs) (omega (arith, length-drop 19 bs))) ∙ outcome in
-    let back : take 91 rest ≡ fit_bytes r.fit ++ outcome_bytes r.outcome = take_all 91 rest (omega (arith, length-drop 2 bs)) ∙ sym (take-append-drop 17 rest) ∙ (λ i. fit i ++ last i) in
-    two_and_rest bs 91 long ∙ (λ i. sym operation i ++ back i)
+-- the outcome's part of a row's bytes
+pub outcome_part : (bs rest outcome : List ℕ) → rest ≡ drop 2 bs → outcome ≡ drop 17 rest → (r : Row) → bs ≡ row_bytes r → outcome ≡ outcome_bytes r.outcome
+outcome_part bs rest outcome r u x e = u ∙ ap (drop 17) (r ∙ ap (drop 2) e) ∙ drop_at (fit_bytes x.fit) (outcome_bytes x.outcome) 17 (wide_fit x.fit)
 
 pos_fits : (n : FieldNumber) → SFits w64 (pos n.number)
 pos_fits n = record { sfits = omega (arith, n.below) }
@@ -121,31 +89,32 @@ same_span s t f l h = λ i. record {
   high_in_bytes = is_prop→PathP (λ j. mag (h j) < 2 ^ 63) (λ j. le_prop) s.high_in_bytes t.high_in_bytes i;
 }
 
-pub same_fit : (f g : Fit) → fit_bytes f ≡ fit_bytes g → f ≡ g
-same_fit Always Always e = refl
-same_fit Always (Within s) e = absurd (omega (arith, head_same _ _ _ _ e, s.field.below))
-same_fit (Within s) Always e = absurd (omega (arith, head_same _ _ _ _ e, s.field.below))
-same_fit (Within s) (Within t) e =
-    let first : tagged s.field.number s.low ≡ tagged t.field.number t.low = first_same 9 (tagged s.field.number s.low) (signed_bytes s.high) (tagged t.field.number t.low) (signed_bytes t.high) refl refl e in
-    let high : signed_bytes s.high ≡ signed_bytes t.high = second_same 9 (tagged s.field.number s.low) (signed_bytes s.high) (tagged t.field.number t.low) (signed_bytes t.high) refl refl e in
-    ap Within
-    (same_span s t (same_number _ _ (head_same _ _ _ _ first))
-    (signed_same s.low t.low (record { sfits = s.low_in_bytes }) (record { sfits = t.low_in_bytes }) (tail_same _ _ _ _ first))
-    (signed_same s.high t.high (record { sfits = s.high_in_bytes }) (record { sfits = t.high_in_bytes }) high))
+pub same_fit : (f g : Option Span) → fit_bytes f ≡ fit_bytes g → f ≡ g
+same_fit None None e = refl
+same_fit None (Some s) e = absurd (omega (arith, head_same _ _ _ _ e, s.field.below))
+same_fit (Some s) None e = absurd (omega (arith, head_same _ _ _ _ e, s.field.below))
+same_fit (Some s) (Some t) e =
+    let parts = parts_same 9 (tagged s.field.number s.low) (signed_bytes s.high) (tagged t.field.number t.low) (signed_bytes t.high) refl refl e in
+    ap Some
+    (same_span s t (same_number _ _ (head_same _ _ _ _ parts.0))
+    (signed_same s.low t.low (record { sfits = s.low_in_bytes }) (record { sfits = t.low_in_bytes }) (tail_same _ _ _ _ parts.0))
+    (signed_same s.high t.high (record { sfits = s.high_in_bytes }) (record { sfits = t.high_in_bytes }) parts.1))
 
 same_row_fault : (f g : RowFault) → f.fault ≡ g.fault → f ≡ g
 same_row_fault f g e = λ i. record { fault = e i; from_ten = is_prop→PathP (λ j. 10 ≤ fault_code (e j)) (λ j. le_prop) f.from_ten g.from_ten i }
 
-pub same_outcome : (o p : Outcome) → outcome_bytes o ≡ outcome_bytes p → o ≡ p
-same_outcome (Fault f) (Fault g) e = ap Fault (same_row_fault f g (same_fault _ _ (two_same _ _ (first_same 2 (two_bytes (fault_code f.fault)) (replicate 72 0) (two_bytes (fault_code g.fault)) (replicate 72 0) refl refl e))))
-same_outcome (Fault f) (Output p) e = absurd (no_code f (two_same _ 0 (first_same 2 (two_bytes (fault_code f.fault)) (replicate 72 0) (two_bytes 0) (outputs_bytes p) refl refl e)))
-same_outcome (Output o) (Fault g) e = absurd (no_code g (two_same _ 0 (first_same 2 (two_bytes (fault_code g.fault)) (replicate 72 0) (two_bytes 0) (outputs_bytes o) refl refl (sym e))))
-same_outcome (Output o) (Output p) e = ap Output (same_outputs o p (second_same 2 (two_bytes 0) (outputs_bytes o) (two_bytes 0) (outputs_bytes p) refl refl e))
+fault_or_outputs : (f : RowFault) (o : Outputs) → outcome_bytes (Err f) ≡ outcome_bytes (Ok o) → ⊥
+fault_or_outputs f o e = no_code f (two_same _ 0 (parts_same 2 (two_bytes (fault_code f.fault)) (replicate 72 0) (two_bytes 0) (outputs_bytes o) refl refl e).0)
+
+pub same_outcome : (o p : Result Outputs RowFault) → outcome_bytes o ≡ outcome_bytes p → o ≡ p
+same_outcome (Err f) (Err g) e = ap Err (same_row_fault f g (same_fault _ _ (two_same _ _ (parts_same 2 (two_bytes (fault_code f.fault)) (replicate 72 0) (two_bytes (fault_code g.fault)) (replicate 72 0) refl refl e).0)))
+same_outcome (Err f) (Ok p) e = absurd (fault_or_outputs f p e)
+same_outcome (Ok o) (Err g) e = absurd (fault_or_outputs g o (sym e))
+same_outcome (Ok o) (Ok p) e = ap Ok (same_outputs o p (parts_same 2 (two_bytes 0) (outputs_bytes o) (two_bytes 0) (outputs_bytes p) refl refl e).1)
 
 pub same_row : (r s : Row) → row_bytes r ≡ row_bytes s → r ≡ s
 same_row r s e =
-    let operation : r.operation ≡ s.operation = two_same _ _ (first_same 2 (two_bytes r.operation) (fit_bytes r.fit ++ outcome_bytes r.outcome) (two_bytes s.operation) (fit_bytes s.fit ++ outcome_bytes s.outcome) refl refl e) in
-    let rest = second_same 2 (two_bytes r.operation) (fit_bytes r.fit ++ outcome_bytes r.outcome) (two_bytes s.operation) (fit_bytes s.fit ++ outcome_bytes s.outcome) refl refl e in
-    let fit : r.fit ≡ s.fit = same_fit _ _ (first_same 17 (fit_bytes r.fit) (outcome_bytes r.outcome) (fit_bytes s.fit) (outcome_bytes s.outcome) (wide_fit r.fit) (wide_fit s.fit) rest) in
-    let outcome : r.outcome ≡ s.outcome = same_outcome _ _ (second_same 17 (fit_bytes r.fit) (outcome_bytes r.outcome) (fit_bytes s.fit) (outcome_bytes s.outcome) (wide_fit r.fit) (wide_fit s.fit) rest) in
-    λ i. record { operation = operation i; fit = fit i; outcome = outcome i }
+    let front = parts_same 2 (two_bytes r.operation) (fit_bytes r.fit ++ outcome_bytes r.outcome) (two_bytes s.operation) (fit_bytes s.fit ++ outcome_bytes s.outcome) refl refl e in
+    let parts = parts_same 17 (fit_bytes r.fit) (outcome_bytes r.outcome) (fit_bytes s.fit) (outcome_bytes s.outcome) (wide_fit r.fit) (wide_fit s.fit) front.1 in
+    let operation : r.operation ≡ s.operation = two_same _ _ front.0 in
+    λ i. record { operation = operation i; fit = same_fit r.fit s.fit parts.0 i; outcome = same_outcome r.outcome s.outcome parts.1 i }

@@ -1,5 +1,5 @@
 -- Bytes have one verdict as a rule table.
-use Rattle.std.proofs.Common.{◌≡◌, ℕ, ◌+◌, ◌-◌, ◌*◌, ◌<◌, ◌≤◌, List, [], ◌∷◌, ◌++◌, length, get_or, take, drop, Err, sym, refl, ap, ◌∙◌, subst, ⊎_elim, arith, length-drop}
+use Rattle.std.proofs.Common.{◌≡◌, ℕ, ◌+◌, ◌-◌, ◌*◌, ◌<◌, ◌≤◌, List, [], ◌∷◌, ◌++◌, length, get_or, take, drop, sym, refl, ap, ◌∙◌, subst, ⊎_elim, arith, length-drop}
 use Rattle.std.specs.List.{flat_map}
 use Rattle.std.proofs.lemmas.List.{take_all}
 use Rattle.std.proofs.lemmas.Bool.{cases_lt}
@@ -10,21 +10,15 @@ use Rattle.tables.specs.declared.refusal.TableRefusal.{TableRefusal}
 use Rattle.tables.specs.declared.refusal.TableRefusal.TheVariants.{Size, BadRow}
 use Rattle.tables.specs.Layout.{two_bytes, row_bytes}
 use Rattle.tables.specs.Records.{FirstBad}
-use Rattle.tables.specs.Reading.{Sized, TableRefused, RowsRead, Encoded, accepted, refused, OneVerdict, OneEncoding}
-use Rattle.tables.proofs.Pieces.{two_and_rest, some}
-use Rattle.tables.proofs.Encodings.{wide_row, same_row, two_same, first_same, second_same}
+use Rattle.tables.specs.Reading.{Sized, TableRefused, Encoded, accepted, refused, OneVerdict, OneEncoding}
+use Rattle.tables.proofs.Pieces.{two_and_rest, two_read, some}
+use Rattle.tables.specs.Widths.{wide_row}
+use Rattle.tables.proofs.Encodings.{same_row, two_same, parts_same}
 
 pub same_rows : OneEncoding
 same_rows rows others e =
-    let count : two_bytes (length rows) ≡ two_bytes (length others) = first_same 2 (two_bytes (length rows)) (flat_map row_bytes rows) (two_bytes (length others)) (flat_map row_bytes others) refl refl e in
-    same_from_joined row_bytes 93 wide_row same_row rows others (two_same _ _ count)
-    (second_same 2 (two_bytes (length rows)) (flat_map row_bytes rows) (two_bytes (length others)) (flat_map row_bytes others) refl refl e)
-
--- the front of bytes is the count that stands there
-pub front_is : (bs : List ℕ) (count : ℕ) → 2 ≤ length bs → two_bytes count ≡ get_or bs 0 0 ∷ get_or bs 1 0 ∷ [] → take 2 bs ≡ two_bytes count
-front_is [] count h e = absurd (omega arith)
-front_is (a ∷ []) count h e = absurd (omega arith)
-front_is (a ∷ b ∷ bs) count h e = sym e
+    let parts = parts_same 2 (two_bytes (length rows)) (flat_map row_bytes rows) (two_bytes (length others)) (flat_map row_bytes others) refl refl e in
+    same_from_joined row_bytes 93 wide_row same_row rows others (two_same _ _ parts.0) parts.1
 
 pub one_count : (bs : List ℕ) (m n : ℕ) → take 2 bs ≡ two_bytes m → take 2 bs ≡ two_bytes n → m ≡ n
 one_count bs m n p q = two_same m n (sym p ∙ q)
@@ -60,25 +54,39 @@ one_verdict bs (accepted a) (refused e) p q = absurd (encoded_not_refused bs a e
 one_verdict bs (refused e) (accepted a) p q = absurd (encoded_not_refused bs a e q p)
 one_verdict bs (refused d) (refused e) p q = ap refused (one_refusal bs d e p q)
 
--- with the count that stands there the bytes are too many or too few, or it is too large
-pub not_sized : (bs : List ℕ) (count : ℕ) → take 2 bs ≡ two_bytes count → (count ≤ 64 → length bs ≡ 2 + 93 * count → ⊥) → (n : ℕ) → Sized bs n → ⊥
-not_sized bs count front never n s =
-    let same : n ≡ count = one_count bs n count s.count_is front in
-    never (omega (arith, s.few)) (omega (arith, s.length_is))
+-- all bytes after the first two
+after_two : (bs : List ℕ) → take (length bs - 2) (drop 2 bs) ≡ drop 2 bs
+after_two bs = take_all (length bs - 2) (drop 2 bs) (omega (arith, length-drop 2 bs))
 
--- what is refused of the rows is refused of the table
-pub rows_refused : (bs : List ℕ) (count : ℕ) (e : TableRefusal) → Sized bs count → RowsRead (take (length bs - 2) (drop 2 bs)) count (Err e) → TableRefused bs e
-rows_refused bs count Size s r = absurd r
-rows_refused bs count (BadRow k) s r =
-    record { count = count; sized = s; there = r.0; first = subst (λ (l : List ℕ). FirstBad row_bytes 93 l k) (take_all (length bs - 2) (drop 2 bs) (omega (arith, length-drop 2 bs))) r.1 }
+module _ (bs : List ℕ) (count : ℕ) (front : 2 ≤ length bs) (stands : count ≡ get_or bs 0 0 + get_or bs 1 0 * 256) (low : get_or bs 0 0 < 256) where
+  abbrev rest : List ℕ
+  rest = take (length bs - 2) (drop 2 bs)
 
-pub table_from_rows : (bs : List ℕ) (rows : List Row) → Sized bs (length rows) → take (length bs - 2) (drop 2 bs) ≡ flat_map row_bytes rows → Encoded bs rows
-table_from_rows bs rows s e =
-    let long : length bs ≡ (length bs - 2) + 2 = omega (arith, s.length_is) in
-    let front : (get_or bs 0 0 ∷ get_or bs 1 0 ∷ []) ≡ two_bytes (length rows) = heads bs (omega (arith, s.length_is)) ∙ s.count_is in
-    record { few = s.few; bytes_are = two_and_rest bs (length bs - 2) long ∙ (λ i. front i ++ e i) }
-  where
-    heads : (l : List ℕ) → 2 ≤ length l → (get_or l 0 0 ∷ get_or l 1 0 ∷ []) ≡ take 2 l
-    heads [] h = absurd (omega arith)
-    heads (a ∷ []) h = absurd (omega arith)
-    heads (a ∷ b ∷ l) h = refl
+  -- the front of bytes is the count that stands there
+  front_is : take 2 bs ≡ two_bytes count
+  front_is = go bs front (two_read count _ _ stands low)
+    where
+      go : (l : List ℕ) → 2 ≤ length l → two_bytes count ≡ get_or l 0 0 ∷ get_or l 1 0 ∷ [] → take 2 l ≡ two_bytes count
+      go [] h e = absurd (omega arith)
+      go (a ∷ []) h e = absurd (omega arith)
+      go (a ∷ b ∷ l) h e = sym e
+
+  -- the rest is too long or too short for it, or it is too large
+  pub not_sized : (count ≤ 64 → length rest ≡ 93 * count → ⊥) → (n : ℕ) → Sized bs n → ⊥
+  not_sized never n s =
+      let same : n ≡ count = one_count bs n count s.count_is front_is in
+      never (omega (arith, s.few)) (omega (arith, s.length_is, ap length (after_two bs), length-drop 2 bs))
+
+  sized : count ≤ 64 → length rest ≡ 93 * count → Sized bs count
+  sized few long = record { count_is = front_is; few = few; length_is = omega (arith, ap length (after_two bs), length-drop 2 bs) }
+
+  -- what is refused of the rows is refused of the table
+  pub row_refused : count ≤ 64 → length rest ≡ 93 * count → (k : ℕ) → 93 * k < length rest → FirstBad row_bytes 93 rest k → TableRefused bs (BadRow k)
+  row_refused few long k there first =
+      record { count = count; sized = sized few long; there = omega arith; first = subst (λ (l : List ℕ). FirstBad row_bytes 93 l k) (after_two bs) first }
+
+  pub table_from_rows : count ≤ 64 → length rest ≡ 93 * count → (rows : List Row) → rest ≡ flat_map row_bytes rows → Encoded bs rows
+  table_from_rows few long rows e =
+      let many : count ≡ length rows = omega (arith, ap length e, length_joined row_bytes 93 wide_row rows) in
+      let code : (get_or bs 0 0 ∷ get_or bs 1 0 ∷ []) ≡ two_bytes (length rows) = sym (two_read count _ _ stands low) ∙ ap two_bytes many in
+      record { few = omega arith; bytes_are = two_and_rest bs (length bs - 2) (omega arith) ∙ (λ i. code i ++ e i) }

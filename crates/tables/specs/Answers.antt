@@ -1,5 +1,5 @@
 -- Which inputs a row fits, and what it answers.
-use Rattle.std.specs.Prelude.{◌≡◌, ℕ, Bool, true, false, not, ◌&&◌, map, ◌≤ℤ◌, ◌==◌, int_lt}
+use Rattle.std.specs.Prelude.{◌≡◌, ℕ, Bool, true, false, not, ◌&&◌, map, ◌≤ℤ◌, Some, None, Ok, Err, Option, Result, ◌==◌, int_lt}
 use Rattle.std.proofs.Common.{◌∙◌}
 use Rattle.std.proofs.lemmas.List.{length-map}
 use Rattle.values.specs.declared.field.Field.{Field}
@@ -15,10 +15,7 @@ use Rattle.tables.specs.declared.source.Source.{Source}
 use Rattle.tables.specs.declared.source.Source.TheVariants.{Given, Copied}
 use Rattle.tables.specs.declared.outputs.Outputs.{Outputs}
 use Rattle.tables.specs.declared.fit.Span.{Span}
-use Rattle.tables.specs.declared.fit.Fit.{Fit}
-use Rattle.tables.specs.declared.fit.Fit.TheVariants.{Always, Within}
-use Rattle.tables.specs.declared.outcome.Outcome.{Outcome}
-use Rattle.tables.specs.declared.outcome.Outcome.TheVariants.{Fault, Output}
+use Rattle.tables.specs.declared.outcome.RowFault.{RowFault}
 use Rattle.tables.specs.declared.row.Row.{Row}
 
 -- a number from low to high, both included; a blank never
@@ -26,9 +23,9 @@ abbrev pub Inside : Span → Field → Type 0
 Inside s Blank = ⊥
 Inside s (Number a) = (s.low ≤ℤ size a) × (size a ≤ℤ s.high)
 
-abbrev pub FitsInput : Fit → Container → Type 0
-FitsInput Always input = Unit {0}
-FitsInput (Within s) input = Inside s (field_at input s.field.number)
+abbrev pub FitsInput : Option Span → Container → Type 0
+FitsInput None input = Unit {0}
+FitsInput (Some s) input = Inside s (field_at input s.field.number)
 
 -- the row is of that operation and fits the input
 abbrev pub Applies : ℕ → Container → Row → Type 0
@@ -39,9 +36,9 @@ abbrev pub inside : Span → Field → Bool
 inside s Blank = false
 inside s (Number a) = not (int_lt (size a) s.low) && not (int_lt s.high (size a))
 
-abbrev pub fits_input : Fit → Container → Bool
-fits_input Always input = true
-fits_input (Within s) input = inside s (field_at input s.field.number)
+abbrev pub fits_input : Option Span → Container → Bool
+fits_input None input = true
+fits_input (Some s) input = inside s (field_at input s.field.number)
 
 abbrev pub applies : ℕ → Container → Row → Bool
 applies operation input r = r.operation == operation && fits_input r.fit input
@@ -54,9 +51,9 @@ chosen input (Copied n) = field_at input n.number
 abbrev pub output_over : Container → Outputs → Container
 output_over input o = record { fields = map (chosen input) o.sources; eight = length-map o.sources (chosen input) ∙ o.eight }
 
-abbrev pub outcome_answer : Container → Outcome → Answer
-outcome_answer input (Fault f) = faults f.fault
-outcome_answer input (Output o) = gives (output_over input o)
+abbrev pub outcome_answer : Container → Result Outputs RowFault → Answer
+outcome_answer input (Err f) = faults f.fault
+outcome_answer input (Ok o) = gives (output_over input o)
 
 abbrev pub row_answer : Container → Row → Answer
 row_answer input r = outcome_answer input r.outcome

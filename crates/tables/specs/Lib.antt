@@ -1,5 +1,6 @@
 pub mod Records
 pub mod Layout
+pub mod Widths
 pub mod Answers
 pub mod Refusals
 pub mod Tables

@@ -31,12 +31,6 @@ abbrev pub TableRefused : List ℕ → TableRefusal → Type 0
 TableRefused bs Size = (count : ℕ) → Sized bs count → ⊥
 TableRefused bs (BadRow k) = LowestBad bs k
 
--- the rows that bytes encode with no count in front of them, or the lowest that is bad
-abbrev pub RowsRead : List ℕ → ℕ → Result RuleTable TableRefusal → Type 0
-RowsRead bs count (Ok t) = (length (rows_of t) ≡ count) × (bs ≡ flat_map row_bytes (rows_of t))
-RowsRead bs count (Err Size) = ⊥
-RowsRead bs count (Err (BadRow k)) = (k < count) × FirstBad row_bytes 93 bs k
-
 -- at most 64 rows are what the bytes encode
 pub record Encoded (bs : List ℕ) (rows : List Row) : Type 0 where
   pub few : length rows ≤ 64

@@ -1,6 +1,10 @@
 -- Reading what bytes encode.
-use Rattle.std.specs.Prelude.{◌≡◌, ℕ, ◌<◌, List, Some, None, Ok, Err, Option, Result, ◌≢◌, slice_index_or}
+use Rattle.std.specs.Prelude.{◌≡◌, ℕ, ◌*◌, ◌<◌, ◌≤◌, List, length, Some, None, Ok, Err, Option, Result, ◌≢◌}
+use Rattle.std.specs.List.{flat_map}
+use Rattle.lists.specs.declared.list.BoundedList.{BoundedList}
+use Rattle.lists.specs.Lists.{items}
 use Rattle.values.specs.Cases.{slot}
+use Rattle.tables.specs.declared.records.BadRecord.{BadRecord}
 
 -- what is read has these bytes; where nothing is read, nothing has them
 abbrev pub Reads : {X : Type 0} → (X → List ℕ) → List ℕ → Option X → Type 0
@@ -21,7 +25,13 @@ pub record FirstBad {X : Type 0} (f : X → List ℕ) (width : ℕ) (bs : List �
   pub bad : Bad f width bs k
   pub good_before : (j : ℕ) → j < k → Good f width bs j
 
--- each of the first places has its record, or there is a first record that is none
-abbrev pub Filled : {X : Type 0} → (X → List ℕ) → ℕ → List ℕ → ℕ → List X → Result (Unit {0}) ℕ → Type 0
-Filled {X} f width bs count places (Ok u) = (k : ℕ) (d : X) → k < count → slot width bs k ≡ f (slice_index_or places k d)
-Filled f width bs count places (Err k) = (k < count) × FirstBad f width bs k
+-- bytes as long as so many records, at most n
+pub record WholeRecords (width n : ℕ) (bs : List ℕ) : Type 0 where
+  pub count : ℕ
+  pub length_is : length bs ≡ width * count
+  pub few : count ≤ n
+
+-- the records that the bytes are, or there is a first that is none
+abbrev pub RecordsRead : {X : Type 0} {N : ℕ} → (X → List ℕ) → ℕ → List ℕ → Result (BoundedList X N) BadRecord → Type 0
+RecordsRead f width bs (Ok l) = bs ≡ flat_map f (items l)
+RecordsRead f width bs (Err e) = (width * e.number < length bs) × FirstBad f width bs e.number

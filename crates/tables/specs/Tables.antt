@@ -1,7 +1,8 @@
 -- What a rule table answers: the first row of the operation that fits the input decides.
-use Rattle.std.specs.Prelude.{◌≡◌, ℕ, cond, List, [], ◌∷◌, ◌++◌, take, Some, None, Option}
+use Rattle.std.specs.Prelude.{◌≡◌, ℕ, List, ◌∷◌, ◌++◌, find, Some, None, Option}
 use Rattle.std.proofs.Common.{lit≤}
 use Rattle.std.specs.List.{AllByRecursion}
+use Rattle.lists.specs.Lists.{items}
 use Rattle.values.specs.declared.container.Container.{Container}
 use Rattle.partners.specs.declared.fault.Fault.{Fault}
 use Rattle.partners.specs.Answers.{Answer, Answers, faults}
@@ -10,7 +11,7 @@ use Rattle.tables.specs.declared.table.RuleTable.{RuleTable}
 use Rattle.tables.specs.Answers.{Applies, applies, row_answer}
 
 abbrev pub rows_of : RuleTable → List Row
-rows_of t = take t.count t.rows
+rows_of t = items t.rows
 
 -- none of these rows is of the operation and fits the input
 abbrev pub NoneApplies : ℕ → Container → List Row → Type 0
@@ -31,8 +32,7 @@ ByFirstFit rows operation input None = NoneApplies operation input rows
 
 -- the same, computed
 abbrev pub first_fitting : ℕ → Container → List Row → Option Row
-first_fitting operation input [] = None
-first_fitting operation input (r ∷ rs) = cond (applies operation input r) (Some r) (first_fitting operation input rs)
+first_fitting operation input rows = find (applies operation input) rows
 
 -- what is computed is the first row that fits, and nothing else is
 abbrev pub FirstFitComputed : Type 0

@@ -6,7 +6,7 @@ use values::field::FieldNumber;
 pub mod reading;
 
 /// The tested field of an input, and the least and the greatest number that it may have.
-#[derive(Clone, Copy)]
+#[derive(Clone, Copy, PartialEq, Eq, Debug)]
 pub struct Span {
     field: FieldNumber,
     low: i64,
@@ -14,11 +14,4 @@ pub struct Span {
     ghost ordered: { low ≤ℤ high },
     ghost low_in_bytes: { mag low < 2 ^ 63 },
     ghost high_in_bytes: { mag high < 2 ^ 63 },
-}
-
-/// Which inputs a row fits.
-#[derive(Clone, Copy)]
-pub enum Fit {
-    Always,
-    Within(Span),
 }

@@ -1,30 +1,45 @@
-ghost use Rattle.std.specs.Prelude.{◌≡◌, ℕ, ◌*◌, ◌≤◌, List, length};
-ghost use Rattle.tables.specs.Records.{Reads, Filled};
+ghost use Rattle.std.specs.Prelude.{◌≡◌, ℕ, ◌<◌, List, length};
+ghost use Rattle.tables.specs.Records.{Reads, WholeRecords, RecordsRead};
+
+use lists::BoundedList;
 
 /// What stands in bytes as records of one width, one after the other.
 pub(crate) trait Record: Copy {
     ghost encoding: { Self → List ℕ };
 
+    ghost WIDTH: { ℕ };
+
+    /// How many bytes a record has.
+    const WIDTH: usize;
+
     /// The record that has exactly these bytes.
     fn read(bytes: &[u8]) -> Option<Self>
         ensures { Reads encoding bytes.now result };
+
+    ghost some_bytes: { 0 < WIDTH };
+
+    ghost wide: { (x : Self) → length (encoding x) ≡ WIDTH };
 }
 
-/// Reads so many records into the first places, or says which is the first that is none.
-pub(crate) fn fill<R: Record>(
+/// The number of the first record that is none.
+#[derive(Clone, Copy, PartialEq, Eq, Debug)]
+pub(crate) struct BadRecord {
+    pub(crate) number: usize,
+}
+
+/// The records that bytes are, at most `N`.
+pub(crate) fn read_records<R: Record, const N: usize>(
     bytes: &[u8],
-    width: usize,
-    places: &mut [R],
-    count: usize,
-) -> Result<(), usize>
-    requires { (length bytes.now ≡ width * count) × (count ≤ length places.old) }
-    ensures { Filled R.Record.encoding width bytes.now count places.new result }
+    filler: R,
+) -> Result<BoundedList<R, N>, BadRecord>
+    requires { WholeRecords R.Record.WIDTH N bytes.now }
+    ensures { RecordsRead R.Record.encoding R.Record.WIDTH bytes.now result }
 {
-    for k in 0..count {
-        match R::read(&bytes[width * k..width * k + width]) {
-            Some(record) => places[k] = record,
-            None => return Err(k),
-        }
+    let mut records = BoundedList::new(filler);
+    for piece in bytes.chunks_exact(R::WIDTH) {
+        let number = records.len();
+        let record = R::read(piece).ok_or(BadRecord { number })?;
+        records.push(record).unwrap();
     }
-    Ok(())
+    Ok(records)
 }

@@ -1,37 +1,44 @@
 ghost use Rattle.std.specs.Prelude.{◌≡◌, MatchBool};
+ghost use Rattle.std.proofs.Common.{lit<};
 ghost use Rattle.tables.specs.Layout.{row_bytes};
-ghost use Rattle.tables.specs.Answers.{Applies, applies, row_answer, Replied};
+ghost use Rattle.tables.specs.Widths.{wide_row};
+ghost use Rattle.tables.specs.Answers.{FitsInput, fits_input, Applies, applies, row_answer, Replied};
 
-use crate::fit::Fit;
-use crate::numbers::number;
-use crate::outcome::Outcome;
+use crate::fit::Span;
+use crate::fit::reading::read_fit;
+use crate::outcome::RowFault;
+use crate::outcome::reading::read_outcome;
 use crate::outputs::Outputs;
 use crate::records::Record;
 use partners::partner::Reply;
 use values::container::Container;
 
-/// A row of a rule table.
-#[derive(Clone, Copy)]
+/// A row of a rule table: its operation, the span that its input has to be in, and what it answers.
+#[derive(Clone, Copy, PartialEq, Eq, Debug)]
 pub struct Row {
     operation: u16,
-    fit: Fit,
-    outcome: Outcome,
+    fit: Option<Span>,
+    outcome: Result<Outputs, RowFault>,
 }
 
 impl Record for Row {
     ghost encoding = { row_bytes };
 
+    ghost WIDTH = { 93 };
+
+    ghost some_bytes = { lit< tt };
+
+    ghost wide = { wide_row };
+
+    const WIDTH: usize = 93;
+
     fn read(bytes: &[u8]) -> Option<Row> {
-        if bytes.len() != 93 {
-            return None;
-        }
-        let operation = number(bytes[0], bytes[1]);
-        let fit = Fit::read(&bytes[2..19])?;
-        let outcome = Outcome::read(&bytes[19..93])?;
+        let (operation, rest) = bytes.split_first_chunk()?;
+        let (fit, outcome) = rest.split_first_chunk()?;
         Some(Row {
-            operation,
-            fit,
-            outcome,
+            operation: u16::from_le_bytes(*operation),
+            fit: read_fit(fit)?,
+            outcome: read_outcome(outcome.as_array()?)?,
         })
     }
 }
@@ -41,9 +48,17 @@ impl Row {
     pub(crate) fn unused() -> Row {
         Row {
             operation: 0,
-            fit: Fit::Always,
-            outcome: Outcome::Output(Outputs::blank()),
+            fit: None,
+            outcome: Ok(Outputs::blank()),
         }
+    }
+
+    /// Whether an input fits: every input fits a row with no span.
+    pub fn fits(&self, input: &Container) -> bool
+        ensures value { result ≡ fits_input self.now.fit input.now }
+        ensures says { MatchBool result (FitsInput self.now.fit input.now) (FitsInput self.now.fit input.now → ⊥) }
+    {
+        self.fit.is_none_or(|span| span.fits(input))
     }
 
     /// Whether the row is of this operation and fits this input.
@@ -51,7 +66,7 @@ impl Row {
         ensures value { result ≡ applies operation input.now self.now }
         ensures says { MatchBool result (Applies operation input.now self.now) (Applies operation input.now self.now → ⊥) }
     {
-        self.operation == operation && self.fit.fits(input)
+        self.operation == operation && self.fits(input)
     }
 
     /// Hands over what the row answers to this input.
@@ -59,13 +74,13 @@ impl Row {
         ensures { Replied (row_answer input.now self.now) output.new result }
     {
         match self.outcome {
-            Outcome::Fault(row_fault) => {
-                *output = Container::blank();
-                Reply::Fault(row_fault.fault())
-            }
-            Outcome::Output(outputs) => {
+            Ok(outputs) => {
                 *output = outputs.over(input);
                 Reply::Done
+            }
+            Err(row_fault) => {
+                *output = Container::blank();
+                Reply::Fault(row_fault.fault())
             }
         }
     }

@@ -1,5 +1,6 @@
 -- What the listing partner answers, and what it lists.
-use Rattle.std.specs.Prelude.{◌≡◌, ℕ, ◌+◌, ◌-◌, ◌^◌, ◌<◌, min, Some, None, Option, slice_index_or, slice_set}
+use Rattle.std.specs.Prelude.{◌≡◌, ℕ, ◌+◌, ◌-◌, ◌^◌, ◌<◌, min, [], ◌∷◌, ◌++◌, take, Some, None, Option, slice_index_or}
+use Rattle.lists.specs.Lists.{items}
 use Rattle.values.specs.declared.container.Container.{Container}
 use Rattle.partners.specs.declared.fault.Fault.{Fault}
 use Rattle.partners.specs.declared.partner.Partner.{Ghosts as Meaning}
@@ -17,9 +18,9 @@ pub record ListingMade (meaning : Meaning Listing) (busy : ℕ) (fault : Option 
   pub busy_is : meaning.busy r ≡ busy
   pub no_calls : r.count ≡ 0
 
--- a call is written at the count while there are places, and the count rises, up to the greatest number
+-- a call is listed at the end while there are places, and the count rises, up to the greatest number
 pub record CallListed (before after : Listing) (operation : ℕ) (input : Container) : Type 0 where
-  pub calls_are : after.calls ≡ slice_set before.calls before.count (record { operation = operation; input = input })
+  pub calls_are : items after.calls ≡ take 16 (items before.calls ++ record { operation = operation; input = input } ∷ [])
   pub count_is : after.count ≡ min (before.count + 1) (2 ^ 64 - 1)
 
 -- and nothing else changes
@@ -30,5 +31,5 @@ pub record OnlyListed (before after : Listing) (operation : ℕ) (input : Contai
 
 -- call k stands at place k
 abbrev pub CallAt : Listing → ℕ → Option Call → Type 0
-CallAt l k (Some call) = (k < l.count) × (k < 16) × (call ≡ slice_index_or l.calls k call)
+CallAt l k (Some call) = (k < l.count) × (k < 16) × (call ≡ slice_index_or (items l.calls) k call)
 CallAt l k None = k < min l.count 16 → ⊥

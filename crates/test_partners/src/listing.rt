@@ -1,5 +1,7 @@
-ghost use Rattle.std.specs.Prelude.{◌≡◌, length};
+ghost use Rattle.std.specs.Prelude.{◌≡◌, length, min};
+ghost use Rattle.lists.specs.Lists.{items};
 
+use lists::BoundedList;
 use partners::fault::Fault;
 use values::container::Container;
 
@@ -7,7 +9,7 @@ pub mod calls;
 pub mod making;
 
 /// A call as it came: the operation and the input.
-#[derive(Clone, Copy)]
+#[derive(Clone, Copy, PartialEq, Eq, Debug)]
 pub struct Call {
     pub operation: u16,
     pub input: Container,
@@ -17,9 +19,9 @@ pub struct Call {
 /// or faults where it is told to. The first 16 calls are listed; the count goes on past them.
 #[derive(Clone, Copy)]
 pub struct Listing {
-    calls: [Call; 16],
+    calls: BoundedList<Call, 16>,
     count: usize,
     busy: usize,
     fault: Option<Fault>,
-    ghost places: { length calls ≡ 16 },
+    ghost first_listed: { length (items calls) ≡ min count 16 },
 }

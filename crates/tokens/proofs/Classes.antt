@@ -3,7 +3,7 @@ use Rattle.std.proofs.Common.{◌≡◌, ℕ, true, ◌⊎◌, refl, inl, inr, �
 use Rattle.std.proofs.lemmas.Bool.{cases_eq, false≢true}
 use Rattle.std.proofs.lemmas.Bool.Decides.{nat_tests}
 use Rattle.tokens.specs.declared.class.Class.{Class}
-use Rattle.tokens.specs.declared.class.Class.TheVariants.{Space, Letter, Digit, Minus, Sign, Parenthesis, Other}
+use Rattle.tokens.specs.declared.class.Class.TheVariants.{Space, Minus, Sign, Parenthesis}
 use Rattle.tokens.specs.Classes.{class, space_byte, is_space}
 
 pub minus_class : (b : ℕ) → b ≡ 45 → class b ≡ Minus
@@ -23,10 +23,6 @@ unfolding class
 class_sign b e =
     ⊎_elim inl (λ a. ⊎_elim (λ h. inr (inl h)) (λ c. ⊎_elim (λ h. inr (inr (inl h))) (λ d. inr (inr (inr (grind (arith, nat_tests))))) (cases_eq b 62)) (cases_eq b 61)) (cases_eq b 60)
 
-pub class_parenthesis : (b : ℕ) → class b ≡ Parenthesis → (b ≡ 40) ⊎ (b ≡ 41)
-unfolding class
-class_parenthesis b e = ⊎_elim inl (λ a. inr (grind (arith, nat_tests))) (cases_eq b 40)
-
 pub space_class : (b : ℕ) → b ≡ 32 → class b ≡ Space
 unfolding class
 space_class b e = grind (arith, nat_tests)
@@ -37,12 +33,7 @@ sign_class b e = grind (arith, nat_tests)
 
 is_space_only : (k : Class) → is_space k ≡ true → k ≡ Space
 is_space_only Space e = refl
-is_space_only Letter e = absurd (false≢true e)
-is_space_only Digit e = absurd (false≢true e)
-is_space_only Minus e = absurd (false≢true e)
-is_space_only Sign e = absurd (false≢true e)
-is_space_only Parenthesis e = absurd (false≢true e)
-is_space_only Other e = absurd (false≢true e)
+is_space_only _ e = absurd (false≢true e)
 
 pub space_byte_only : (b : ℕ) → space_byte b ≡ true → b ≡ 32
 space_byte_only b e = class_space b (is_space_only (class b) e)

@@ -52,13 +52,9 @@ run_stopped [] = tt
 run_stopped (x ∷ xs) = cond_both (word_byte x) (suc (run xs)) 0 (λ n. NoWord (drop n (x ∷ xs))) (λ _. run_stopped xs) (λ e. e)
 
 front_word : (k : Class) (xs : List ℕ) → in_word k ≡ true → (is_space k ≡ false) × (front_by k xs ≡ run xs)
-front_word Space xs e = absurd (false≢true e)
 front_word Letter xs e = (refl, refl)
 front_word Digit xs e = (refl, refl)
-front_word Minus xs e = absurd (false≢true e)
-front_word Sign xs e = absurd (false≢true e)
-front_word Parenthesis xs e = absurd (false≢true e)
-front_word Other xs e = absurd (false≢true e)
+front_word _ xs e = absurd (false≢true e)
 
 -- these bytes are what is taken at the front
 record Taken (w rest : List ℕ) : Type 0 where

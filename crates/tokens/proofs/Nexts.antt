@@ -1,11 +1,11 @@
 -- The tokens from a place on are the one at the front and those after it.
 use Rattle.std.proofs.Common.{◌≡◌, ℕ, zero, suc, ◌+◌, ◌-◌, ◌<◌, ◌≤◌, false, List, [], ◌∷◌, length, get_or, take, drop, sym, refl, ap, ◌∙◌, subst, ⊎_elim, add-zero, add-suc, suc-add, arith, length-drop}
 use mathlib.Core.Path.{subst⁻¹}
-use Rattle.std.proofs.lemmas.List.{drop-drop}
+use Rattle.std.proofs.lemmas.List.{drop-drop, nil_from_length}
 use Rattle.std.proofs.lemmas.Bool.{cond-true, cond-false, cases_Bool, cases_lt}
 use Rattle.std.proofs.lemmas.Bool.Decides.{nat_tests}
 use Rattle.tokens.specs.declared.class.Class.{Class}
-use Rattle.tokens.specs.declared.class.Class.TheVariants.{Space, Letter, Digit, Minus, Sign, Parenthesis, Other}
+use Rattle.tokens.specs.declared.class.Class.TheVariants.{Letter, Digit, Minus, Sign}
 use Rattle.tokens.specs.Classes.{class, word_byte, space_byte}
 use Rattle.tokens.specs.Tokens.{spaces, lexed, tokens_from, front, front_by, sign_length}
 use Rattle.tokens.proofs.Spans.{span_le, second_past}
@@ -27,13 +27,11 @@ sign_long xs h =
     grind (arith, nat_tests, two)
 
 front_by_long : (k : Class) (xs : List ℕ) → class (get_or xs 0 0) ≡ k → 0 < length xs → Long xs (front_by k xs)
-front_by_long Space xs e h = (omega arith, omega arith)
 front_by_long Letter xs e h = (run_pos xs Letter refl e h, span_le word_byte xs)
 front_by_long Digit xs e h = (run_pos xs Digit refl e h, span_le word_byte xs)
 front_by_long Minus xs e h = (omega arith, omega (arith, span_le word_byte (drop 1 xs), length-drop 1 xs))
 front_by_long Sign xs e h = sign_long xs h
-front_by_long Parenthesis xs e h = (omega arith, omega arith)
-front_by_long Other xs e h = (omega arith, omega arith)
+front_by_long _ xs e h = (omega arith, omega arith)
 
 pub front_long : (xs : List ℕ) → 0 < length xs → Long xs (front xs)
 front_long xs h = front_by_long (class (get_or xs 0 0)) xs refl h
@@ -84,11 +82,7 @@ next_token text p q n at some is =
     ∙ ap (λ k. (q, take k (drop q text)) ∷ lexed 0 (drop k (drop q text)) (q + k)) (sym is)
     ∙ ap (λ l. (q, take n (drop q text)) ∷ lexed 0 l (q + n)) (drop-drop n q text)
 
-length_nil : {X : Type 0} (xs : List X) → length xs ≡ 0 → xs ≡ []
-length_nil [] e = refl
-length_nil (x ∷ xs) e = absurd (omega arith)
-
 pub next_none : (text : List ℕ) (p q : ℕ) → q ≡ p + spaces (drop p text) → length (drop q text) ≡ 0 → (tokens_from text p ≡ []) × (tokens_from text q ≡ [])
 next_none text p q at none =
-    let empty : tokens_from text q ≡ [] = ap (λ l. lexed 0 l q) (length_nil (drop q text) none) in
+    let empty : tokens_from text q ≡ [] = ap (λ l. lexed 0 l q) (nil_from_length (drop q text) none) in
     (left_at text p q at ∙ empty, empty)

@@ -5,7 +5,7 @@ use Rattle.values.specs.declared.amount.Comparison.{Comparison}
 use Rattle.values.specs.declared.amount.Comparison.TheVariants.{Less, AtMost, Equal, Unequal, AtLeast, Greater}
 use Rattle.grammar.specs.Symbols.{opening, closing, sign, bad}
 use Rattle.tokens.specs.declared.class.Class.{Class}
-use Rattle.tokens.specs.declared.class.Class.TheVariants.{Space, Letter, Digit, Minus, Sign, Parenthesis, Other}
+use Rattle.tokens.specs.declared.class.Class.TheVariants.{Letter, Digit, Minus, Sign, Parenthesis}
 use Rattle.tokens.specs.declared.token.Token.TheVariants as t
 use Rattle.tokens.specs.Classes.{class}
 use Rattle.tokens.specs.Tokens.{spelling}
@@ -31,7 +31,6 @@ sign_says AtLeast = at_class Sign 62 _ (sign_class 62 (inr (inr (inl refl))))
 sign_says Greater = at_class Sign 62 _ (sign_class 62 (inr (inr (inl refl))))
 
 other_by : (k : Class) (b : ℕ) → class b ≡ k → Apt (t.Other b) → symbol_by k (b ∷ []) ≡ bad
-other_by Space b e apt = refl
 other_by Letter b e apt = absurd (apt.0 e)
 other_by Digit b e apt = absurd (apt.1 e)
 other_by Minus b e apt = ap (λ x. symbol_by Minus (x ∷ [])) (class_minus b e)
@@ -41,7 +40,7 @@ other_by Sign b e apt =
     let greater : b ≡ 62 → ⊥ = λ h. apt.4 (Greater, ap (λ x. x ∷ []) h) in
     grind (arith, nat_tests)
 other_by Parenthesis b e apt = let open_not = apt.2 in let close_not = apt.3 in grind (arith, nat_tests)
-other_by Other b e apt = refl
+other_by _ b e apt = refl
 
 pub other_says : (b : ℕ) → Apt (t.Other b) → symbol (b ∷ []) ≡ bad
 other_says b apt = other_by (class b) b refl apt

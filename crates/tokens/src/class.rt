@@ -2,7 +2,7 @@ ghost use Rattle.std.specs.Prelude.{◌≡◌};
 ghost use Rattle.tokens.specs.Classes.{class};
 
 /// What a byte of a condition text can be part of.
-#[derive(Clone, Copy)]
+#[derive(Clone, Copy, PartialEq, Eq, Debug)]
 pub enum Class {
     Space,
     Letter,
@@ -14,6 +14,7 @@ pub enum Class {
 }
 
 impl Class {
+    #[tactic(auto, using(std::proofs::lemmas::Bool::Decides::nat_tests), unfolding(crate::specs::Classes::class))]
     pub fn of(byte: u8) -> Class
         ensures { result ≡ class byte }
     {

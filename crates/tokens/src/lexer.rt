@@ -3,7 +3,7 @@ ghost use Rattle.std.specs.Prelude.{◌≤◌, length};
 pub mod tokens;
 
 /// A condition text and how far its tokens are taken.
-#[derive(Drop)]
+#[derive(Debug, Drop)]
 pub struct Lexer<'a> {
     text: &'a [u8],
     place: usize,

@@ -5,7 +5,7 @@ pub mod numbers;
 pub mod words;
 
 /// What a token says.
-#[derive(Clone, Copy)]
+#[derive(Clone, Copy, PartialEq, Eq, Debug)]
 pub enum Symbol {
     Or,
     And,
@@ -19,14 +19,14 @@ pub enum Symbol {
 }
 
 /// A side of a comparison.
-#[derive(Clone, Copy)]
+#[derive(Clone, Copy, PartialEq, Eq, Debug)]
 pub enum Operand {
     Field(FieldNumber),
     Number(Amount),
 }
 
 /// The next symbol and its place, or none and the text's length at the end.
-#[derive(Clone, Copy)]
+#[derive(Clone, Copy, PartialEq, Eq, Debug)]
 pub struct Located {
     pub place: usize,
     pub symbol: Option<Symbol>,

@@ -1,7 +1,7 @@
 use values::amount::Comparison;
 
 /// A token of a condition text. A word or a number is the part of the text itself.
-#[derive(Clone, Copy)]
+#[derive(Clone, Copy, PartialEq, Eq, Debug)]
 pub enum Token<'a> {
     /// Letters and digits, a letter first.
     Word(&'a [u8]),

@@ -1,6 +1,7 @@
 -- Values are equal where they are the same.
 use Rattle.std.proofs.Common.{◌≡◌, Bool, true, false, refl, sym, ap}
 use mathlib.Core.Bool.{true≢false}
+use mathlib.Core.Path.{subst⁻¹}
 use Rattle.std.specs.Prelude.{Decides}
 use Rattle.std.specs.Cmp.{signed_Decides}
 use Rattle.std.specs.Cmp.Lexicographic.{pointwise_decides}
@@ -37,3 +38,7 @@ pub container_eq_decides : (c d : Container) → Decides (container_eq c d) (c �
 container_eq_decides c d =
     let e = pointwise_decides field_eq_decides c.fields d.fields in
     (λ t. same_container c d (e.0 t), λ s. e.1 (ap (λ (x : Container). x.fields) s))
+
+-- a test that answers as one that decides sameness decides it too
+pub decided_as : {X : Type 0} (f : X → X → Bool) {e : X → X → Bool} → ((a b : X) → e a b ≡ f a b) → ((a b : X) → Decides (f a b) (a ≡ b)) → (a b : X) → Decides (e a b) (a ≡ b)
+decided_as f same d a b = subst⁻¹ (λ t. Decides t (a ≡ b)) (same a b) (d a b)

@@ -3,7 +3,7 @@ ghost use Rattle.std.specs.Prelude.{pos, negsuc, ◌<ℤ◌};
 pub mod sizes;
 
 /// A signed whole number strictly between -10^12 and 10^12.
-#[derive(Clone, Copy, Debug)]
+#[derive(Clone, Copy, Debug, PartialEq, Eq)]
 pub struct Amount {
     value: i64,
     ghost above: { negsuc 999_999_999_999 <ℤ value },

@@ -1,7 +1,7 @@
 ghost use Rattle.std.specs.Prelude.{◌≡◌, ℕ, Result};
 ghost use Rattle.values.specs.declared.container.Container.{Container};
 ghost use Rattle.values.specs.declared.case.refusal.CaseRefusal.{CaseRefusal};
-ghost use Rattle.values.specs.Cases.{CaseRead, case_bytes, cause_number, place_number};
+ghost use Rattle.values.specs.Cases.{CaseRead, case_bytes};
 
 use crate::container::Container;
 use crate::field::{Field, FieldNumber};
@@ -19,30 +19,13 @@ pub fn read_case(bytes: &[u8]) -> Result<Container, CaseRefusal>
     if bytes.len() != 72 {
         return Err(CaseRefusal::Length);
     }
-    let mut case = Container::blank();
-    for k in 0..8u8 {
-        let number = FieldNumber::at(k);
-        match Field::read(&bytes[9 * k as usize..]) {
-            Some(field) => case.set(number, field),
-            None => return Err(CaseRefusal::BadField(number)),
-        }
+    let mut fields = [Field::Blank; 8];
+    let mut rest = bytes;
+    // Not a `zip` with `chunks_exact(9)`: after a `zip` no proof knows what was written to the fields.
+    for (k, field) in fields.iter_mut().enumerate() {
+        let number = FieldNumber::at(k as u8);
+        *field = Field::read(rest).ok_or(CaseRefusal::BadField(number))?;
+        rest = &rest[9..];
     }
-    Ok(case)
-}
-
-impl CaseRefusal {
-    pub fn cause(&self) -> u16
-        ensures { result ≡ cause_number self.now }
-    {
-        20
-    }
-
-    pub fn place(&self) -> usize
-        ensures { result ≡ place_number self.now }
-    {
-        match self {
-            CaseRefusal::Length => 8,
-            CaseRefusal::BadField(number) => number.get() as usize,
-        }
-    }
+    Ok(Container::new(fields))
 }

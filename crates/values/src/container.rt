@@ -5,7 +5,7 @@ use crate::field::Field;
 pub mod fields;
 
 /// Eight fields, f0 to f7.
-#[derive(Clone, Copy, Debug)]
+#[derive(Clone, Copy, PartialEq, Eq, Debug)]
 pub struct Container {
     fields: [Field; 8],
     ghost eight: { length fields ≡ 8 },

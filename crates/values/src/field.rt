@@ -5,7 +5,8 @@ use crate::amount::Amount;
 pub mod reading;
 
 /// A field of a container: blank, or an amount.
-#[derive(Clone, Copy, Debug)]
+// Not an `Option`: a blank is a value with bytes and a text of its own, and no text can be given to a type of the library.
+#[derive(Clone, Copy, Debug, PartialEq, Eq)]
 pub enum Field {
     Blank,
     Number(Amount),
@@ -19,14 +20,18 @@ pub struct FieldNumber {
 }
 
 /// What the tag in front of a value says that the value is.
-#[derive(Clone, Copy)]
+#[derive(Clone, Copy, PartialEq, Eq, Debug)]
 pub enum Tag {
     Blank,
     Number,
 }
 
+/// A number that no tag has.
+#[derive(Clone, Copy, PartialEq, Eq, Debug)]
+pub struct UnknownTag(pub u8);
+
 /// A tag's number and the value behind it, as nine bytes have them, whether they make a field or not.
-#[derive(Clone, Copy)]
+#[derive(Clone, Copy, PartialEq, Eq, Debug)]
 pub struct Tagged {
     pub tag: u8,
     pub value: i64,

@@ -1,23 +1,23 @@
 //! Conditions, terms and factors.
 
 ghost use Rattle.grammar.specs.Grammar.{condition as condition_level, term as term_level, factor as factor_level};
-ghost use Rattle.conditions.specs.Steps.{Kept, Parsed};
+ghost use Rattle.conditions.specs.Steps.{Parsed};
 
 use super::Parser;
-use crate::ground::Kind;
 use crate::truth::{Truth, conjunction, constant, disjunction, negation};
 use tokens::fault::Fault;
-use tokens::symbol::{Operand, Symbol};
+use tokens::symbol::{Located, Symbol};
 
+// Conditions and terms are a function each: one for both would ask which part, symbol and table the level has,
+// and would have to require that the part is called only below the cycle's measure.
 impl<'a> Parser<'a> {
     /// Terms joined by or.
     #[cycle(condition_factor_term)]
     pub(crate) fn condition(&mut self) -> Result<Truth, Fault>
-        ensures kept { Kept self.old self.new }
-        ensures parsed { Parsed condition_level self.old result self.new }
+        ensures { Parsed condition_level self.old result self.new }
     {
         let mut value = self.term()?;
-        while self.at_or() {
+        while matches!(self.ahead.symbol, Some(Symbol::Or)) {
             let next = self.term()?;
             value = disjunction(value, next);
         }
@@ -27,11 +27,10 @@ impl<'a> Parser<'a> {
     /// Factors joined by and.
     #[cycle(condition_factor_term)]
     fn term(&mut self) -> Result<Truth, Fault>
-        ensures kept { Kept self.old self.new }
-        ensures parsed { Parsed term_level self.old result self.new }
+        ensures { Parsed term_level self.old result self.new }
     {
         let mut value = self.factor()?;
-        while self.at_and() {
+        while matches!(self.ahead.symbol, Some(Symbol::And)) {
             let next = self.factor()?;
             value = conjunction(value, next);
         }
@@ -41,14 +40,10 @@ impl<'a> Parser<'a> {
     /// Not before a factor, a condition in parentheses, true, false, or a test.
     #[cycle(condition_factor_term)]
     fn factor(&mut self) -> Result<Truth, Fault>
-        ensures kept { Kept self.old self.new }
-        ensures parsed { Parsed factor_level self.old result self.new }
+        ensures { Parsed factor_level self.old result self.new }
     {
-        let first = self.lexer.symbol()?;
-        let place = first.place;
-        let Some(symbol) = first.symbol else {
-            return Err(Fault { place });
-        };
+        let Located { place, symbol } = self.lexer.symbol()?;
+        let symbol = symbol.ok_or(Fault { place })?;
         match symbol {
             Symbol::Not => {
                 let value = self.factor()?;
@@ -62,8 +57,8 @@ impl<'a> Parser<'a> {
                 self.advance()?;
                 Ok(constant(value))
             }
-            Symbol::Operand(left) => self.operand_first(place, left),
-            Symbol::Link(link) => self.link_first(place, link),
+            Symbol::Operand(left) => self.comparison(place, left),
+            Symbol::Link(link) => self.link(place, link),
             _ => Err(Fault { place }),
         }
     }

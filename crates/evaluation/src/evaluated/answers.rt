@@ -13,32 +13,31 @@ impl Evaluated {
     pub fn outcome(&self, activity: usize) -> Option<Outcome>
         ensures { ElementAt (λ o. o) Skipped (outcomes_of self.now) activity result }
     {
-        if activity < self.activity_count {
-            Some(self.outcomes[activity])
-        } else {
-            None
-        }
+        self.activities
+            .get(activity)
+            .map(|evaluated| evaluated.outcome)
     }
 
     /// The input of an activity; eight blanks where it was skipped.
     pub fn input(&self, activity: usize) -> Option<Container>
         ensures { ElementAt (λ c. c) no_output (inputs_of self.now) activity result }
     {
-        if activity < self.activity_count {
-            Some(self.inputs[activity])
-        } else {
-            None
-        }
+        self.activities
+            .get(activity)
+            .map(|evaluated| evaluated.input)
     }
 
     pub fn status(&self, link: usize) -> Option<bool>
         ensures { ElementAt (λ s. s) false (statuses_of self.now) link result }
     {
-        if link < self.link_count {
-            Some(self.statuses[link])
-        } else {
-            None
-        }
+        self.statuses.get(link)
+    }
+
+    /// The statuses of all links, in their order.
+    pub fn statuses(&self) -> &[bool]
+        ensures { result.now ≡ statuses_of self.now }
+    {
+        self.statuses.as_slice()
     }
 
     /// The sum of output field f7 over the completed activities.

@@ -1,4 +1,4 @@
-ghost use Rattle.std.specs.Prelude.{◌≡◌, ◌+◌, [], map, length};
+ghost use Rattle.std.specs.Prelude.{◌≡◌, [], map, length};
 ghost use Rattle.conditions.specs.Texts.{text_bytes};
 ghost use Rattle.layout.specs.Drafts.{ElementAt, zero_activity, zero_link, zero_connector};
 ghost use Rattle.path_laws.specs.Ranks.{Ranks, OneOrder, PathsLeadForward, WorkedOut};
@@ -8,127 +8,88 @@ use super::Flow;
 use conditions::text::Text;
 use parts::{Activity, Connector, Link};
 
+// Each kind of part has a type of its own, and callers name it by the call. The calls are one line each;
+// one call for all kinds would need a trait, or a closure that names the kind again.
 impl Flow {
     pub fn activity_count(&self) -> usize
         ensures { result ≡ length (flow_parts self.now).activities }
     {
-        match &self.draft {
-            Some(draft) => draft.activity_count(),
-            None => 0,
-        }
+        self.activities().len()
     }
 
     pub fn link_count(&self) -> usize
         ensures { result ≡ length (flow_parts self.now).links }
     {
-        match &self.draft {
-            Some(draft) => draft.link_count(),
-            None => 0,
-        }
+        self.links().len()
     }
 
     pub fn connector_count(&self) -> usize
         ensures { result ≡ length (flow_parts self.now).connectors }
     {
-        match &self.draft {
-            Some(draft) => draft.connector_count(),
-            None => 0,
-        }
+        self.connectors().len()
     }
 
     /// As many as links and activities.
     pub fn text_count(&self) -> usize
         ensures { result ≡ length (flow_parts self.now).texts }
     {
-        match &self.draft {
-            Some(draft) => draft.text_count(),
-            None => 0,
-        }
+        self.texts().len()
     }
 
     pub fn activities(&self) -> &[Activity]
         ensures { result.now ≡ (flow_parts self.now).activities }
     {
-        match &self.draft {
-            Some(draft) => draft.activities(),
-            None => &[],
-        }
+        self.draft.as_ref().map_or(&[], |draft| draft.activities())
     }
 
     pub fn links(&self) -> &[Link]
         ensures { result.now ≡ (flow_parts self.now).links }
     {
-        match &self.draft {
-            Some(draft) => draft.links(),
-            None => &[],
-        }
+        self.draft.as_ref().map_or(&[], |draft| draft.links())
     }
 
     pub fn connectors(&self) -> &[Connector]
         ensures { result.now ≡ (flow_parts self.now).connectors }
     {
-        match &self.draft {
-            Some(draft) => draft.connectors(),
-            None => &[],
-        }
+        self.draft.as_ref().map_or(&[], |draft| draft.connectors())
+    }
+
+    fn texts(&self) -> &[Text]
+        ensures { map text_bytes result.now ≡ (flow_parts self.now).texts }
+    {
+        self.draft.as_ref().map_or(&[], |draft| draft.texts())
     }
 
     pub fn activity(&self, i: usize) -> Option<Activity>
         ensures { ElementAt (λ a. a) zero_activity (flow_parts self.now).activities i result }
     {
-        match &self.draft {
-            Some(draft) => draft.activity(i),
-            None => None,
-        }
+        self.activities().get(i).copied()
     }
 
     pub fn link(&self, i: usize) -> Option<Link>
         ensures { ElementAt (λ l. l) zero_link (flow_parts self.now).links i result }
     {
-        match &self.draft {
-            Some(draft) => draft.link(i),
-            None => None,
-        }
+        self.links().get(i).copied()
     }
 
     pub fn connector(&self, i: usize) -> Option<Connector>
         ensures { ElementAt (λ c. c) zero_connector (flow_parts self.now).connectors i result }
     {
-        match &self.draft {
-            Some(draft) => draft.connector(i),
-            None => None,
-        }
-    }
-
-    fn text(&self, i: usize) -> Option<Text>
-        ensures { ElementAt text_bytes [] (flow_parts self.now).texts i result }
-    {
-        match &self.draft {
-            Some(draft) => draft.text(i),
-            None => None,
-        }
+        self.connectors().get(i).copied()
     }
 
     /// The transition text of a link.
     pub fn transition(&self, link: usize) -> Option<Text>
         ensures { ElementAt text_bytes [] (transition_texts self.now) link result }
     {
-        if link < self.link_count() {
-            self.text(link)
-        } else {
-            None
-        }
+        self.texts()[..self.link_count()].get(link).copied()
     }
 
     /// The join text of an activity.
     pub fn join(&self, activity: usize) -> Option<Text>
         ensures { ElementAt text_bytes [] (join_texts self.now) activity result }
     {
-        if activity < self.activity_count() {
-            self.text(self.link_count() + activity)
-        } else {
-            None
-        }
+        self.texts()[self.link_count()..].get(activity).copied()
     }
 
     /// All activities, each the least of those whose link sources all stand before it.

@@ -1,4 +1,4 @@
-ghost use Rattle.std.specs.Prelude.{◌≡◌, ◌≤◌, [], ◌∷◌, length, MatchResult};
+ghost use Rattle.std.specs.Prelude.{◌≡◌, [], ◌∷◌, length, MatchResult};
 ghost use Rattle.layout.specs.Layout.{two_bytes};
 ghost use Rattle.layout.specs.Reading.{Took, CutAt, CountIs, CountStops, EndStops};
 
@@ -14,10 +14,10 @@ pub fn number(low: u8, high: u8) -> u16
 
 impl<'a> Reader<'a> {
     pub fn new(bytes: &'a [u8]) -> Reader<'a>
-        ensures bytes { result.bytes.now ≡ bytes.now }
+        ensures rest { result.rest.now ≡ bytes.now }
         ensures start { result.at ≡ 0 }
     {
-        Reader { bytes, at: 0 }
+        Reader { rest: bytes, at: 0 }
     }
 
     /// How many bytes are read.
@@ -29,26 +29,48 @@ impl<'a> Reader<'a> {
 
     /// The next `n` bytes.
     pub fn take(&mut self, n: usize) -> Result<&'a [u8], LayoutRefusal>
-        ensures bytes { self.new.bytes.now ≡ self.old.bytes.now }
-        ensures took { MatchResult result (λ s. Took self.old.bytes.now self.old.at self.new.at s.now × (length s.now ≡ n)) (CutAt n self.old.bytes.now self.old.at) }
+        ensures { MatchResult result (λ s. Took self.old self.new s.now × (length s.now ≡ n)) (CutAt n self.old) }
     {
-        let at = self.at;
-        if self.bytes.len() - at < n {
-            return Err(LayoutRefusal::Cut(at));
-        }
-        self.at = at + n;
-        Ok(&self.bytes[at..at + n])
+        let (taken, rest) = self
+            .rest
+            .split_at_checked(n)
+            .ok_or(LayoutRefusal::Cut(self.at))?;
+        self.rest = rest;
+        self.at += n;
+        Ok(taken)
     }
 
-    /// A count of two bytes, the lowest first, and its limits.
+    /// The next `N` bytes.
+    pub fn array<const N: usize>(&mut self) -> Result<[u8; N], LayoutRefusal>
+        ensures { MatchResult result (λ s. Took self.old self.new s × (length s ≡ N)) (CutAt N self.old) }
+    {
+        Ok(self.take(N)?.try_into().unwrap())
+    }
+
+    /// The next byte.
+    pub fn byte(&mut self) -> Result<u8, LayoutRefusal>
+        ensures { MatchResult result (λ b. Took self.old self.new (b ∷ [])) (CutAt 1 self.old) }
+    {
+        let [byte] = self.array::<1>()?;
+        Ok(byte)
+    }
+
+    /// A number in two bytes, the lowest first.
+    fn number(&mut self) -> Result<u16, LayoutRefusal>
+        ensures { MatchResult result (λ n. Took self.old self.new (two_bytes n)) (CutAt 2 self.old) }
+    {
+        let [low, high] = self.array::<2>()?;
+        Ok(number(low, high))
+    }
+
+    // Two numbers and not a `RangeInclusive`: one that was iterated to its end contains nothing, and a clause would have to rule that out.
+    /// A count within these limits.
     pub fn count(&mut self, least: usize, greatest: usize) -> Result<usize, LayoutRefusal>
-        ensures bytes { self.new.bytes.now ≡ self.old.bytes.now }
-        ensures count { MatchResult result (CountIs self.old.bytes.now self.old.at self.new.at least greatest) (CountStops self.old.bytes.now self.old.at least greatest) }
+        ensures { MatchResult result (CountIs self.old self.new least greatest) (CountStops self.old least greatest) }
     {
         let at = self.at;
-        let bytes = self.take(2)?;
-        let count = number(bytes[0], bytes[1]) as usize;
-        if count < least || count > greatest {
+        let count = usize::from(self.number()?);
+        if !(least..=greatest).contains(&count) {
             return Err(LayoutRefusal::Count(at));
         }
         Ok(count)
@@ -56,11 +78,11 @@ impl<'a> Reader<'a> {
 
     /// Refuses bytes that are left.
     pub fn end(&self) -> Result<(), LayoutRefusal>
-        ensures { MatchResult result (λ _. length self.now.bytes.now ≤ self.now.at) (EndStops self.now.bytes.now self.now.at) }
+        ensures { MatchResult result (λ _. self.now.rest.now ≡ []) (EndStops self.now) }
     {
-        if self.at < self.bytes.len() {
-            return Err(LayoutRefusal::Extra(self.at));
+        match self.rest {
+            [] => Ok(()),
+            _ => Err(LayoutRefusal::Extra(self.at)),
         }
-        Ok(())
     }
 }

@@ -1,7 +1,7 @@
 ghost use Rattle.std.specs.Prelude.{◌≡◌, [], length, slice_get};
 ghost use Rattle.lists.specs.Lists.{items, PushAnswers, CopyAnswers};
 
-use super::BoundedList;
+use super::{BoundedList, Full};
 
 impl<T: Copy, const N: usize> BoundedList<T, N> {
     /// A list with no elements; its places hold the filler.
@@ -27,16 +27,16 @@ impl<T: Copy, const N: usize> BoundedList<T, N> {
         Some(BoundedList { places, count })
     }
 
-    /// Adds an element at the end, or answers that there is no place for it.
-    pub fn push(&mut self, x: T) -> Option<()>
+    /// Adds an element at the end, where there is a place for it.
+    pub fn push(&mut self, x: T) -> Result<(), Full>
         ensures { PushAnswers N (items self.old) x (items self.new) result }
     {
         if self.count == N {
-            return None;
+            return Err(Full);
         }
         self.places[self.count] = x;
         self.count += 1;
-        Some(())
+        Ok(())
     }
 
     pub fn len(&self) -> usize

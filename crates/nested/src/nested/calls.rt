@@ -16,19 +16,11 @@ const SKIPPED: u16 = 2;
 fn hand_up(outcome: Outcome, output: &mut Container) -> Reply
     ensures { (before after : ℕ) → Said (handed_up outcome) before after output.new result }
 {
+    *output = outcome.output().copied().unwrap_or(Container::blank());
     match outcome {
-        Outcome::Skipped => {
-            *output = Container::blank();
-            Reply::Fault(Fault::new(SKIPPED).unwrap())
-        }
-        Outcome::Completed(container) => {
-            *output = container;
-            Reply::Done
-        }
-        Outcome::Faulted(fault) => {
-            *output = Container::blank();
-            Reply::Fault(fault)
-        }
+        Outcome::Skipped => Reply::Fault(Fault::new(SKIPPED).unwrap()),
+        Outcome::Completed(_) => Reply::Done,
+        Outcome::Faulted(fault) => Reply::Fault(fault),
     }
 }
 
@@ -39,9 +31,10 @@ impl<P: Partner> Partner for Nested<P> {
 
     fn call(&mut self, _operation: u16, input: &Container, output: &mut Container) -> Reply {
         *output = Container::blank();
-        match evaluate(&self.flow, input, &mut self.below) {
-            Some(evaluated) => hand_up(evaluated.outcome(self.result).unwrap(), output),
-            None => Reply::Busy,
-        }
+        let Some(evaluated) = evaluate(&self.flow, input, &mut self.below) else {
+            return Reply::Busy;
+        };
+        let outcome = evaluated.outcome(self.result).unwrap();
+        hand_up(outcome, output)
     }
 }

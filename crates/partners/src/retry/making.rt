@@ -10,12 +10,13 @@ impl<P: Partner> Retry<P> {
     pub fn new(below: P, tries: usize) -> Result<Retry<P>, Refused<LayerRefusal, P>>
         ensures { RetryMade P.Partner (retry_meaning P.row P.Partner) below tries result }
     {
-        if tries < 1 || tries > 8 {
-            return Err(Refused {
+        if (1..=8).contains(&tries) {
+            Ok(Retry { below, tries })
+        } else {
+            Err(Refused {
                 refusal: LayerRefusal::Tries(tries),
                 partner: below,
-            });
+            })
         }
-        Ok(Retry { below, tries })
     }
 }

@@ -6,6 +6,7 @@ use crate::pairs::ActivityPairs;
 use parts::Link;
 
 /// The ends of all links, or `None` where one is not below `count`.
+#[tactic(auto, using(path_laws::proofs::Tables::collects_none, path_laws::proofs::Tables::collects_more, crate::proofs::Adding::pair_added, crate::proofs::Adding::linked_pairs))]
 fn end_pairs(links: &[Link], count: usize) -> Option<ActivityPairs>
     requires { count ≤ 32 }
     ensures { EndPairs links.now count result }
@@ -13,7 +14,7 @@ fn end_pairs(links: &[Link], count: usize) -> Option<ActivityPairs>
     let mut pairs = ActivityPairs::none();
     for link in links {
         let Link { source, target } = *link;
-        if source as usize >= count || target as usize >= count {
+        if usize::from(source) >= count || usize::from(target) >= count {
             return None;
         }
         pairs.add(source, target);
@@ -23,6 +24,7 @@ fn end_pairs(links: &[Link], count: usize) -> Option<ActivityPairs>
 
 impl Reach {
     /// All paths of links among the activities below `count`, of which there are at most 32.
+    #[tactic(auto, using(crate::proofs::Rounds::tabled_by_rows))]
     pub fn of(links: &[Link], count: usize) -> Option<Reach>
         ensures { ReachAnswers links.now count result }
     {
@@ -30,8 +32,8 @@ impl Reach {
             return None;
         }
         let mut pairs = end_pairs(links, count)?;
-        for k in 0..count {
-            pairs.join_through(k as u8, count);
+        for k in 0..count as u8 {
+            pairs.join_through(k);
         }
         Some(Reach { pairs })
     }
@@ -47,12 +49,6 @@ impl Reach {
     pub fn least_on_cycle(&self, count: usize) -> Option<u8>
         ensures { LeastOnCycle self.now count result }
     {
-        for n in 0..count.min(32) {
-            let a = n as u8;
-            if self.reaches(a, a) {
-                return Some(a);
-            }
-        }
-        None
+        (0..count.min(32) as u8).find(|a| self.reaches(*a, *a))
     }
 }

@@ -4,12 +4,14 @@ ghost use Rattle.path_tables.specs.Sets.{has, OneMore, Within};
 use super::ActivitySet;
 
 impl ActivitySet {
+    #[tactic(auto, using(path_laws::proofs::Bits::bit_none))]
     pub fn empty() -> ActivitySet
         ensures { (a : ℕ) → has result a ≡ false }
     {
         ActivitySet { bits: 0 }
     }
 
+    #[tactic(auto, using(path_laws::proofs::Bits::bit_read))]
     pub fn contains(self, activity: u8) -> bool
         ensures { result ≡ has self activity }
     {
@@ -29,6 +31,7 @@ impl ActivitySet {
         }
     }
 
+    #[tactic(auto, using(path_laws::proofs::Bits::bit_of_or))]
     pub fn union(self, other: ActivitySet) -> ActivitySet
         ensures { (a : ℕ) → has result a ≡ (has self a || has other a) }
     {
@@ -38,6 +41,7 @@ impl ActivitySet {
     }
 
     /// Whether all its activities are in the other set.
+    #[tactic(auto, using(path_laws::proofs::Bits::or_adds_none))]
     pub fn is_subset(self, other: ActivitySet) -> bool
         ensures { Decides result (Within self other) }
     {

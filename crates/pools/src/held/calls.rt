@@ -12,8 +12,8 @@ fn place_of_least<T: Ordered>(items: &[T]) -> usize
     ensures { LeastAt T.before items.now (length items.now) result }
 {
     let mut least = 0;
-    for i in 1..items.len() {
-        if items[i].is_before(&items[least]) {
+    for (i, item) in items.iter().enumerate() {
+        if item.is_before(&items[least]) {
             least = i;
         }
     }
@@ -58,8 +58,7 @@ impl<'a, T: Ordered> Pool<'a, T> {
         requires { 0 < self.now.count }
         ensures { LeastAt T.before (contents self.now) (length (contents self.now)) result }
     {
-        let count = self.count;
-        place_of_least(&self.places[0..count])
+        place_of_least(&self.places[..self.count])
     }
 
     /// Takes out the element at a place and moves those behind it down by one.
@@ -68,13 +67,9 @@ impl<'a, T: Ordered> Pool<'a, T> {
         ensures out { OutAt (contents self.old) at result (contents self.new) }
         ensures places { SamePlaces self.old self.new }
     {
-        let count = self.count;
         let x = self.places[at];
-        for i in at + 1..count {
-            let moved = self.places[i];
-            self.places[i - 1] = moved;
-        }
-        self.count = count - 1;
+        self.places.copy_within(at + 1..self.count, at);
+        self.count -= 1;
         x
     }
 }

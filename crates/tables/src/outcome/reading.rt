@@ -1,10 +1,10 @@
-ghost use Rattle.std.specs.Prelude.{◌≡◌, ◌<◌, length, MatchOption};
+ghost use Rattle.std.specs.Prelude.{◌≡◌, ◌<◌, MatchOption};
 ghost use Rattle.partners.specs.Answers.{fault_code};
 ghost use Rattle.tables.specs.Layout.{outcome_bytes};
 ghost use Rattle.tables.specs.Records.{Reads};
 
-use super::{Outcome, RowFault};
-use crate::numbers::{all_zero, number};
+use super::RowFault;
+use crate::numbers::all_zero;
 use crate::outputs::Outputs;
 use partners::fault::Fault;
 
@@ -26,20 +26,17 @@ impl RowFault {
     }
 }
 
-impl Outcome {
-    /// The outcome that has exactly these bytes.
-    pub(crate) fn read(bytes: &[u8]) -> Option<Outcome>
-        requires { length bytes.now ≡ 74 }
-        ensures { Reads outcome_bytes bytes.now result }
-    {
-        let code = number(bytes[0], bytes[1]);
-        let outputs = &bytes[2..74];
-        if code == 0 {
-            return Some(Outcome::Output(Outputs::read(outputs)?));
-        }
-        if !all_zero(outputs) {
-            return None;
-        }
-        Some(Outcome::Fault(RowFault::new(code)?))
+/// The outcome that has exactly these bytes: outputs or a fault.
+pub(crate) fn read_outcome(bytes: &[u8; 74]) -> Option<Result<Outputs, RowFault>>
+    ensures { Reads outcome_bytes bytes.now result }
+{
+    let code = u16::from_le_bytes(*bytes.first_chunk()?);
+    let outputs = bytes.last_chunk()?;
+    if code == 0 {
+        return Some(Ok(Outputs::read(outputs)?));
     }
+    if !all_zero(outputs) {
+        return None;
+    }
+    Some(Err(RowFault::new(code)?))
 }

@@ -20,13 +20,11 @@ impl RuleTable {
         ensures value { result ≡ first_fitting operation input.now (rows_of self.now) }
         ensures says { ByFirstFit (rows_of self.now) operation input.now result }
     {
-        for k in 0..self.count {
-            let row = self.rows[k];
-            if row.applies(operation, input) {
-                return Some(row);
-            }
-        }
-        None
+        self.rows
+            .as_slice()
+            .iter()
+            .find(|row| row.applies(operation, input))
+            .copied()
     }
 }
 
@@ -36,12 +34,10 @@ impl Partner for RuleTable {
     ghost busy = { λ _. 0 };
 
     fn call(&mut self, operation: u16, input: &Container, output: &mut Container) -> Reply {
-        match self.first_fitting(operation, input) {
-            Some(row) => row.answer(input, output),
-            None => {
-                *output = Container::blank();
-                Reply::Fault(no_row())
-            }
-        }
+        let Some(row) = self.first_fitting(operation, input) else {
+            *output = Container::blank();
+            return Reply::Fault(no_row());
+        };
+        row.answer(input, output)
     }
 }

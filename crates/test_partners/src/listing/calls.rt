@@ -20,28 +20,23 @@ impl Partner for Listing {
             self.busy -= 1;
             return Reply::Busy;
         }
-        match self.fault {
-            Some(fault) => Reply::Fault(fault),
-            None => {
-                *output = *input;
-                Reply::Done
-            }
+        if let Some(fault) = self.fault {
+            return Reply::Fault(fault);
         }
+        *output = *input;
+        Reply::Done
     }
 }
 
 impl Listing {
-    /// Writes the call into its place, where there is one.
+    /// Lists the call, where there is a place for it, and counts it.
     fn list(&mut self, operation: u16, input: &Container)
         ensures { OnlyListed self.old self.new operation input.now }
     {
-        let at = self.count;
-        self.count = at.saturating_add(1);
-        if at < 16 {
-            self.calls[at] = Call {
-                operation,
-                input: *input,
-            };
-        }
+        let _ = self.calls.push(Call {
+            operation,
+            input: *input,
+        });
+        self.count = self.count.saturating_add(1);
     }
 }

@@ -3,6 +3,7 @@ ghost use Rattle.test_partners.specs.Listings.{ListingMade, CallAt};
 ghost use Rattle.test_partners.specs.contracts.listing.calls.ListingPartner.TheImpl.{ghosts as listing_meaning};
 
 use super::{Call, Listing};
+use lists::BoundedList;
 use partners::fault::Fault;
 use values::container::Container;
 
@@ -16,7 +17,7 @@ impl Listing {
             input: Container::blank(),
         };
         Listing {
-            calls: [none; 16],
+            calls: BoundedList::new(none),
             count: 0,
             busy,
             fault,
@@ -34,10 +35,6 @@ impl Listing {
     pub fn listed(&self, k: usize) -> Option<Call>
         ensures { CallAt self.now k result }
     {
-        if k < self.count && k < 16 {
-            Some(self.calls[k])
-        } else {
-            None
-        }
+        self.calls.get(k)
     }
 }

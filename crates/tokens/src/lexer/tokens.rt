@@ -1,7 +1,7 @@
-ghost use Rattle.std.specs.Prelude.{◌≡◌, ℕ, ◌+◌, ◌<◌, ◌≤◌, false, [], ◌∷◌, length, drop, ◌≢◌, slice_index};
-ghost use Rattle.tokens.specs.declared.class.Class.TheVariants.{Letter, Digit, Minus};
-ghost use Rattle.tokens.specs.Classes.{class, word_byte, space_byte};
-ghost use Rattle.tokens.specs.Tokens.{run, spaces, tokens_from};
+ghost use Rattle.std.specs.Prelude.{◌≡◌, ℕ, Bool, ◌<◌, ◌≤◌, false, [], ◌∷◌, length, drop, ◌≢◌, slice_index};
+ghost use Rattle.std.specs.Iterator.{item_count, ActsAsAt};
+ghost use Rattle.tokens.specs.Classes.{word_byte, space_byte};
+ghost use Rattle.tokens.specs.Tokens.{run, span, tokens_from};
 ghost use Rattle.tokens.specs.Lexing.{bytes_of, Apt, long_sign, FrontIs, Fronts, Nexts};
 ghost use Rattle.tokens.specs.Following.{text_of, to_come, Follows};
 
@@ -12,22 +12,25 @@ use crate::symbol::Located;
 use crate::token::Token;
 use values::amount::Comparison;
 
-fn is_word(byte: u8) -> bool
-    ensures { result ≡ word_byte byte }
+fn is_word(byte: &u8) -> bool
+    ensures { result ≡ word_byte byte.now }
 {
-    match Class::of(byte) {
-        Class::Letter | Class::Digit => true,
-        _ => false,
-    }
+    matches!(Class::of(*byte), Class::Letter | Class::Digit)
 }
 
-fn is_space(byte: u8) -> bool
-    ensures { result ≡ space_byte byte }
+fn is_space(byte: &u8) -> bool
+    ensures { result ≡ space_byte byte.now }
 {
-    match Class::of(byte) {
-        Class::Space => true,
-        _ => false,
-    }
+    Class::of(*byte) == Class::Space
+}
+
+/// How many bytes at the front pass a test.
+fn span<F: FnMut(&u8) -> bool>(bytes: &[u8], passes: F) -> usize
+    requires { (state : F) (b : _) → F.pre state b }
+    ensures run { (f : ℕ → Bool) → ActsAsAt F.FnMut passes f → result ≡ span f bytes.now }
+    ensures within { result ≤ length bytes.now }
+{
+    bytes.iter().copied().take_while(passes).count()
 }
 
 /// How many bytes at the front are letters or digits.
@@ -35,11 +38,7 @@ fn run_length(bytes: &[u8]) -> usize
     ensures run { result ≡ run bytes.now }
     ensures within { result ≤ length bytes.now }
 {
-    let mut n = 0;
-    while n < bytes.len() && is_word(bytes[n]) {
-        n += 1;
-    }
-    n
+    span(bytes, is_word)
 }
 
 /// A token of one byte, told by the byte as a character.
@@ -80,7 +79,7 @@ fn minus<'a>(rest: &'a [u8], word: usize) -> (Token<'a>, usize)
     if word == 0 {
         (Token::Other(b'-'), 1)
     } else {
-        (Token::Number(&rest[0..word + 1]), word + 1)
+        (Token::Number(&rest[..=word]), word + 1)
     }
 }
 
@@ -91,19 +90,18 @@ fn plain<'a>(rest: &'a [u8], first: u8) -> (Token<'a>, usize)
     requires no_minus { first ≢ 45 }
     ensures { FrontIs rest.now result.0 result.1 }
 {
+    if let Some(sign) = double(rest) {
+        return (Token::Sign(sign), 2);
+    }
     match Class::of(first) {
         Class::Letter => {
             let n = run_length(rest);
-            (Token::Word(&rest[0..n]), n)
+            (Token::Word(&rest[..n]), n)
         }
         Class::Digit => {
             let n = run_length(rest);
-            (Token::Number(&rest[0..n]), n)
+            (Token::Number(&rest[..n]), n)
         }
-        Class::Sign => match double(rest) {
-            Some(sign) => (Token::Sign(sign), 2),
-            None => (single(first), 1),
-        },
         _ => (single(first), 1),
     }
 }
@@ -126,28 +124,6 @@ impl<'a> Lexer<'a> {
         Lexer { text, place: 0 }
     }
 
-    fn skip_spaces(&mut self)
-        ensures text { self.new.text.now ≡ self.old.text.now }
-        ensures place { self.new.place ≡ self.old.place + spaces (drop self.old.place self.old.text.now) }
-    {
-        while self.place < self.text.len() && is_space(self.text[self.place]) {
-            self.place += 1;
-        }
-    }
-
-    /// The next token and the place of its first byte.
-    pub fn next(&mut self) -> Option<(usize, Token<'a>)>
-        ensures text { self.new.text.now ≡ self.old.text.now }
-        ensures token { Nexts (tokens_from self.old.text.now self.old.place) result (tokens_from self.new.text.now self.new.place) }
-    {
-        self.skip_spaces();
-        let text = self.text;
-        let at = self.place;
-        let (token, n) = front(&text[at..])?;
-        self.place = at + n;
-        Some((at, token))
-    }
-
     /// What the next token says, or the fault of a bad token.
     pub fn symbol(&mut self) -> Result<Located, Fault>
         ensures text { text_of self.new ≡ text_of self.old }
@@ -160,12 +136,27 @@ impl<'a> Lexer<'a> {
                 symbol: None,
             });
         };
-        match token.symbol() {
-            Some(symbol) => Ok(Located {
-                place,
-                symbol: Some(symbol),
-            }),
-            None => Err(Fault { place }),
-        }
+        let symbol = token.symbol().ok_or(Fault { place })?;
+        Ok(Located {
+            place,
+            symbol: Some(symbol),
+        })
+    }
+}
+
+/// The tokens from the place on, each with the place of its first byte.
+impl<'a> Iterator for Lexer<'a> {
+    type Item = (usize, Token<'a>);
+
+    ghost next_gives = { λ s r t. (t.text.now ≡ s.text.now) × Nexts (tokens_from s.text.now s.place) r (tokens_from t.text.now t.place) };
+
+    ghost remaining = { item_count (λ l. tokens_from l.text.now l.place) };
+
+    fn next(&mut self) -> Option<(usize, Token<'a>)> {
+        self.place += span(&self.text[self.place..], is_space);
+        let at = self.place;
+        let (token, n) = front(&self.text[at..])?;
+        self.place = at + n;
+        Some((at, token))
     }
 }

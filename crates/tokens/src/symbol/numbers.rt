@@ -11,18 +11,15 @@ fn read_numeral(most: usize, digits: &[u8]) -> Option<u64>
     ensures value { result ≡ numeral most digits.now }
     ensures bound { IfSome result (λ n. n < 1_000_000_000_000) }
 {
-    if digits.is_empty() || digits.len() > most {
+    if matches!(digits, [] | [b'0', _, ..]) || digits.len() > most {
         return None;
     }
-    if digits[0] == b'0' && digits.len() > 1 {
-        return None;
-    }
-    let mut n: u64 = 0;
+    let mut n = 0;
     for b in digits {
-        match *b {
-            b'0'..=b'9' => n = n * 10 + (*b - b'0') as u64,
-            _ => return None,
+        if !b.is_ascii_digit() {
+            return None;
         }
+        n = n * 10 + u64::from(*b - b'0');
     }
     Some(n)
 }
@@ -61,5 +58,5 @@ pub(crate) fn read_link(digits: &[u8]) -> Option<u8>
     ensures { result ≡ link_number digits.now }
 {
     let n = read_numeral(3, digits)?;
-    if n < 128 { Some(n as u8) } else { None }
+    u8::try_from(n).ok().filter(|n| *n < 128)
 }

@@ -15,22 +15,14 @@ fn field(digit: u8) -> Option<FieldNumber>
     FieldNumber::new(digit.checked_sub(b'0')?)
 }
 
-fn field_word(part: &[u8]) -> Option<Symbol>
-    ensures { Says (named (field_number part.now) None) result }
-{
-    match part {
-        [b'f', digit] => Some(Symbol::Operand(Operand::Field(field(*digit)?))),
-        _ => None,
-    }
-}
-
 /// A field or a link word.
 fn name(part: &[u8]) -> Option<Symbol>
     ensures { Says (named (field_number part.now) (link_of part.now)) result }
 {
     match part {
+        [b'f', digit] => Some(Symbol::Operand(Operand::Field(field(*digit)?))),
         [b'L', digits @ ..] => Some(Symbol::Link(read_link(digits)?)),
-        _ => field_word(part),
+        _ => None,
     }
 }
 
@@ -38,18 +30,13 @@ fn name(part: &[u8]) -> Option<Symbol>
 fn word(part: &[u8]) -> Option<Symbol>
     ensures { Says (word_symbol part.now) result }
 {
-    if part == b"and".as_slice() {
-        Some(Symbol::And)
-    } else if part == b"or".as_slice() {
-        Some(Symbol::Or)
-    } else if part == b"not".as_slice() {
-        Some(Symbol::Not)
-    } else if part == b"true".as_slice() {
-        Some(Symbol::Truth(true))
-    } else if part == b"false".as_slice() {
-        Some(Symbol::Truth(false))
-    } else {
-        name(part)
+    match part {
+        b"and" => Some(Symbol::And),
+        b"or" => Some(Symbol::Or),
+        b"not" => Some(Symbol::Not),
+        b"true" => Some(Symbol::Truth(true)),
+        b"false" => Some(Symbol::Truth(false)),
+        _ => name(part),
     }
 }
 

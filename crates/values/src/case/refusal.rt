@@ -1,4 +1,7 @@
+ghost use Rattle.values.specs.Cases as cases;
+
 use crate::field::FieldNumber;
+use refusals::Refusal;
 
 /// Why bytes are no case.
 #[derive(Clone, Copy, PartialEq, Eq, Debug)]
@@ -7,4 +10,21 @@ pub enum CaseRefusal {
     Length,
     /// The first field whose nine bytes are no field's.
     BadField(FieldNumber),
+}
+
+impl Refusal for CaseRefusal {
+    ghost cause_number = { cases.cause_number };
+
+    ghost place_number = { cases.place_number };
+
+    fn cause(&self) -> u16 {
+        20
+    }
+
+    fn place(&self) -> usize {
+        match self {
+            CaseRefusal::Length => 8,
+            CaseRefusal::BadField(number) => number.get() as usize,
+        }
+    }
 }

@@ -1,9 +1,8 @@
 ghost use Rattle.std.specs.Prelude.{◌≡◌, ℕ, ◌<◌, ◌≤◌, length, take, MatchOption, ◌≢◌};
 ghost use Rattle.values.specs.declared.field.Field.{Field};
-ghost use Rattle.values.specs.declared.field.Tag.{Tag};
-ghost use Rattle.values.specs.Layout.{tag_number, tagged, field_bytes};
+ghost use Rattle.values.specs.Layout.{HasTag, tagged, field_bytes};
 
-use super::{Field, FieldNumber, Tag, Tagged};
+use super::{Field, FieldNumber, Tag, Tagged, UnknownTag};
 use crate::amount::Amount;
 
 impl FieldNumber {
@@ -32,15 +31,16 @@ impl FieldNumber {
     }
 }
 
-impl Tag {
-    /// The tag that has this number.
-    pub fn from_number(number: u8) -> Option<Tag>
-        ensures { MatchOption result ((t : Tag) → tag_number t ≢ number) (λ t. tag_number t ≡ number) }
-    {
+impl TryFrom<u8> for Tag {
+    type Error = UnknownTag;
+
+    ghost try_from_gives = { HasTag };
+
+    fn try_from(number: u8) -> Result<Tag, UnknownTag> {
         match number {
-            0 => Some(Tag::Blank),
-            1 => Some(Tag::Number),
-            _ => None,
+            0 => Ok(Tag::Blank),
+            1 => Ok(Tag::Number),
+            _ => Err(UnknownTag(number)),
         }
     }
 }
@@ -61,7 +61,7 @@ impl Tagged {
     pub fn field(self) -> Option<Field>
         ensures { MatchOption result ((f : Field) → field_bytes f ≢ tagged self.tag self.value) (λ f. field_bytes f ≡ tagged self.tag self.value) }
     {
-        match Tag::from_number(self.tag)? {
+        match Tag::try_from(self.tag).ok()? {
             Tag::Blank if self.value == 0 => Some(Field::Blank),
             Tag::Blank => None,
             Tag::Number => Some(Field::Number(Amount::new(self.value)?)),

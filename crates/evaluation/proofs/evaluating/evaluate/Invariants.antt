@@ -6,7 +6,9 @@ use Rattle.evaluation.proofs.evaluating.evaluate.Given as goal
 abbrev pub invariant-loop-activity : goal.invariant-loop-activity
 invariant-loop-activity g l =
     let p = g.P.Partner in
-    (length l.outcomes ≡ 32)
-    × Treated (flow_plan l.flow) l.case (p.answers l.initial.partner) l.outcomes l.activity-index
-    × (p.answers l.partner ≡ p.answers l.initial.partner)
-    × (p.busy l.partner ≤ p.busy l.initial.partner)
+    record {
+      long : length l.places ≡ 32;
+      treated : Treated (flow_plan l.flow) l.case (p.answers l.initial.partner) l.places l.activity-index;
+      answers : p.answers l.partner ≡ p.answers l.initial.partner;
+      busy : p.busy l.partner ≤ p.busy l.initial.partner;
+    }

@@ -1,10 +1,9 @@
-use Rattle.std.proofs.Common.{◌≡◌, length}
 use Rattle.path_laws.specs.Marks.{unmarked}
 use Rattle.path_laws.specs.Spread.{Sound}
 use Rattle.paths.proofs.reach.reaches.Given as goal
 
 abbrev pub invariant-loop : goal.invariant-loop
-invariant-loop l = (length l.reached ≡ 256) × Sound l.links l.from l.reached
+invariant-loop l = Sound l.links l.from l.reached.marks
 
 abbrev pub decreases-loop : goal.decreases-loop
-decreases-loop l = unmarked l.reached
+decreases-loop l = unmarked l.reached.marks

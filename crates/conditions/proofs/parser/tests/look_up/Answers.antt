@@ -1,40 +1,32 @@
-use Rattle.std.proofs.Common.{◌≡◌, ℕ, ◌+◌, ◌<◌, false, cond, ◌||◌, eqb, List, length, get_or, drop, sym, ap, ◌∙◌}
-use Rattle.std.proofs.lemmas.List.{drop_more, drop_all}
-use Rattle.std.proofs.lemmas.Bool.{cond-true, cond-false, eq-eqb, ne_eqb}
+use Rattle.std.proofs.Common.{◌≡◌, ℕ, Bool, true, false, cond, ◌||◌, ◌==◌, List, [], ◌∷◌, Some, None, Option, refl, ap, ◌∙◌, rules, tests, Bor}
+use mathlib.Core.Path.{subst⁻¹}
+use Rattle.std.specs.List.{find}
+use Rattle.std.specs.Option.{option_map}
+use Rattle.std.proofs.lemmas.Iterator.{YieldsList-from_slice}
+use Rattle.std.proofs.lemmas.Iterator.Search.{find_from_yields_List}
 use Rattle.grammar.specs.Grammar.{member}
 use Rattle.conditions.specs.declared.ground.Incoming.{Incoming}
 use Rattle.conditions.specs.Values.{links_of, status_of}
+use Rattle.conditions.specs.Steps.{StatusIs, Looks}
 use Rattle.conditions.proofs.parser.tests.look_up.Goals as goal
 
-abbrev blank : Incoming
-blank = record { link = 0; status = false }
+abbrev named : ℕ → Incoming → Bool
+named n l = n == l.link
 
--- the link at i is the one, or those after it decide
-member_at : (ls : List Incoming) (i n : ℕ) → i < length ls → member n (links_of (drop i ls)) ≡ (eqb n (get_or ls i blank).link || member n (links_of (drop (i + 1) ls)))
-member_at ls i n h = ap (λ l. member n (links_of l)) (drop_more ls i blank h)
+looked_up : (ls : List Incoming) (n : ℕ) → Looks ls n (option_map (λ (l : Incoming). l.status) (find (named n) ls))
+looked_up [] n = refl
+looked_up (l ∷ ls) n =
+    elim (n == l.link) as (λ b. StatusIs (b || member n (links_of ls)) (cond b l.status (status_of ls n)) (option_map (λ (x : Incoming). x.status) (cond b (Some l) (find (named n) ls))))
+    [ true ↦ (refl, refl) | false ↦ looked_up ls n ]
 
-status_at : (ls : List Incoming) (i n : ℕ) → i < length ls → status_of (drop i ls) n ≡ cond (eqb n (get_or ls i blank).link) (get_or ls i blank).status (status_of (drop (i + 1) ls) n)
-status_at ls i n h = ap (λ l. status_of l n) (drop_more ls i blank h)
-
-pub returns-then-one-link : goal.returns-then-one-link
-returns-then-one-link c =
-    let ls = c.args.incoming.now in
-    let i = c.loop-one.one-index in
-    let n = c.args.link in
-    let same = eq-eqb n (get_or ls i blank).link (sym c.if-one-link.true) in (
-      c.loop-one.invariant.0 ∙ member_at ls i n c.loop-one-test.true ∙ ap (λ b. b || member n (links_of (drop (i + 1) ls))) same,
-      sym (c.loop-one.invariant.1 ∙ status_at ls i n c.loop-one-test.true ∙ cond-true _ _ _ same),
-    )
-
-pub loop-one-preserved : goal.loop-one-preserved
-loop-one-preserved c =
-    let ls = c.args.incoming.now in
-    let i = c.loop-one.one-index in
-    let n = c.args.link in
-    let other = ne_eqb n (get_or ls i blank).link (λ e. c.if-one-link.false (sym e)) in (
-      c.loop-one.invariant.0 ∙ member_at ls i n c.loop-one-test.true ∙ ap (λ b. b || member n (links_of (drop (i + 1) ls))) other,
-      c.loop-one.invariant.1 ∙ status_at ls i n c.loop-one-test.true ∙ cond-false _ _ _ other,
-    )
+status_of_found : (o : Option (Bor Incoming)) → option_map (λ (x : Bor Incoming). x.now.status) o ≡ option_map (λ (l : Incoming). l.status) (option_map (λ (x : Bor Incoming). x.now) o)
+status_of_found None = refl
+status_of_found (Some x) = refl
 
 pub returns : goal.returns
-returns c = c.loop-one.invariant.0 ∙ ap (λ l. member c.args.link (links_of l)) (drop_all c.loop-one.one-index c.args.incoming.now c.loop-one-test.false)
+returns c =
+    let ls = c.args.incoming.now in
+    let n = c.args.link in
+    let found = find_from_yields_List (named n) _ _ c.find.result c.find.ensures.ran (YieldsList-from_slice ls cc) (λ r b q k. search (rules, tests)) in
+    let told : c.map.result ≡ option_map (λ (x : Bor Incoming). x.now.status) c.find.result = search (rules, tests) in
+    subst⁻¹ (Looks ls n) (told ∙ status_of_found c.find.result ∙ ap (option_map (λ (l : Incoming). l.status)) found) (looked_up ls n)

@@ -1,13 +1,12 @@
-use Rattle.std.proofs.Common.{⊎_elim, arith}
-use Rattle.std.proofs.lemmas.Bool.{cases_lt, both_ways}
+use Rattle.std.proofs.Common.{◌≡◌, true, rules}
+use borrow.Author.Tests.{tests}
+use Rattle.std.proofs.lemmas.Iterator.{first_from_Range}
 use Rattle.path_tables.specs.Reaching.{reached}
-use Rattle.path_tables.proofs.Rows.{past_rows}
+use Rattle.path_tables.proofs.Found.{least_found}
 use Rattle.path_tables.proofs.closure.Reach.least_on_cycle.Goals as goal
 
 pub returns : goal.returns
-returns c a h =
-    let pairs = c.args.self.now.pairs in
-    ⊎_elim
-    (λ l. c.loop-n.invariant a (omega (arith, h.0, l)) h.1)
-    (λ past. both_ways (reached c.args.self.now a a) (past_rows pairs.rows a a (omega (arith, past, pairs.places))) h.1)
-    (cases_lt a 32)
+returns c =
+    let reach = c.args.self.now in
+    let found = first_from_Range (record { start = 0; end = c.min.result }) _ _ c.find.result (λ a. reached reach a a ≡ true) (λ a. reached reach a a ≡ true → ⊥) c.find.ensures.ran (λ x q h. search (rules, tests)) (λ x q h. search (rules, tests)) in
+    least_found reach c.args.count c.min.result (search rules) c.find.result found

@@ -1,5 +1,5 @@
 use Rattle.std.proofs.Common.{◌≡◌, ℕ, subst, arith}
-use Rattle.path_laws.proofs.Via.{Tabled, tabled_links, tabled_round, tabled_reaches}
+use Rattle.path_laws.proofs.Via.{Tabled, tabled_links, tabled_reaches}
 use Rattle.path_tables.specs.Pairs.{paired}
 use Rattle.path_tables.proofs.closure.Reach.of.Goals as goal
 
@@ -7,10 +7,6 @@ pub loop-k-init : goal.loop-k-init
 loop-k-init c =
     let known = c.in_ok-pairs.ensures in
     tabled_links c.args.links.now c.args.count known.0 (paired c.in_ok-pairs.pairs) known.1
-
-pub loop-k-preserved : goal.loop-k-preserved
-loop-k-preserved c =
-    tabled_round c.args.links.now c.args.count c.in_ok-pairs.ensures.0 c.loop-k.k (paired c.loop-k.pairs) (paired c.join_through.new.self) c.loop-k.invariant c.join_through.ensures
 
 pub returns : goal.returns
 returns c =

@@ -1,21 +1,18 @@
-use Rattle.std.proofs.Common.{◌≡◌, ◌*◌, length, get_or, sym, ap, ◌∙◌, arith}
-use Rattle.values.specs.declared.field.Field.TheVariants.{Blank}
-use Rattle.values.specs.Cases.{slot}
-use Rattle.values.proofs.Records.{slot_joined, joined_from_slots}
-use Rattle.tables.specs.declared.source.Source.TheVariants.{Given}
+use Rattle.std.proofs.Common.{◌≡◌, length, sym, ap, arith}
+use Rattle.values.proofs.Records.{length_joined}
+use Rattle.lists.specs.Lists.{items}
 use Rattle.tables.specs.Layout.{source_bytes}
-use Rattle.tables.proofs.Encodings.{wide_source}
+use Rattle.tables.specs.Widths.{wide_source}
+use Rattle.tables.proofs.Joined.{none_missed, listed_are}
 use Rattle.tables.proofs.outputs.Outputs.read.Goals as goal
 
-pub returns-in-Ok : goal.returns-in-Ok
-returns-in-Ok c =
-    let bs = c.args.bytes.now in
-    let sources = c.fill.new.places in
-    let eight : length sources ≡ 8 = c.fill.auto.places in
-    joined_from_slots source_bytes 9 wide_source bs sources (Given Blank) (c.requires ∙ ap (λ n. 9 * n) (sym eight)) (λ k h. c.in-Ok.ensures k (Given Blank) (omega arith))
+pub returns-in_err-listed : goal.returns-in_err-listed
+returns-in_err-listed c =
+    rw c.from_residual.ensures (λ o. none_missed source_bytes 9 wide_source c.args.bytes.now c.read_records.result c.read_records.ensures (sym c.in_err-listed.ensures.variant) o.sources)
 
-pub returns-in-Err : goal.returns-in-Err
-returns-in-Err c = λ o e.
-    let bad = c.in-Err.ensures in
-    let k = c.in-Err.field-0 in
-    bad.1.bad (get_or o.sources k (Given Blank)) (ap (λ bs. slot 9 bs k) e ∙ slot_joined source_bytes 9 wide_source o.sources k (Given Blank) (omega (arith, o.eight, bad.0)))
+pub unwrap-sources-requires : goal.unwrap-sources-requires
+unwrap-sources-requires c =
+    let l = items c.in_ok-listed.listed in
+    let are = listed_are source_bytes 9 wide_source c.args.bytes.now c.read_records.result c.in_ok-listed.listed c.read_records.ensures c.in_ok-listed.ensures.value in
+    let eight : length c.as_slice.result.now ≡ 8 = omega (arith, ap length c.as_slice.ensures, ap length are, length_joined source_bytes 9 wide_source l, c.requires) in
+    c.try_from.ensures.0 eight

@@ -1,6 +1,7 @@
-use Rattle.std.proofs.Common.{◌≡◌, ◌+◌, ◌-◌, [], ◌∷◌, take, sym, ap, ◌∙◌, inr, arith}
+use Rattle.std.proofs.Common.{◌+◌, [], ◌∷◌, sym, refl, ap, ◌∙◌, inr, arith}
+use Rattle.std.proofs.lemmas.List.{get_or-take}
 use Rattle.tokens.proofs.Classes.{minus_class}
-use Rattle.tokens.proofs.Fronts.{front_minus, take_first, minus_apt, first_of_take}
+use Rattle.tokens.proofs.Fronts.{front_minus, take_first, minus_apt}
 use Rattle.tokens.proofs.lexer.tokens.minus.Goals as goal
 
 pub returns-then-word-eq0 : goal.returns-then-word-eq0
@@ -16,10 +17,9 @@ returns-then-word-eq0 c =
 pub returns-else-word-eq0 : goal.returns-else-word-eq0
 returns-else-word-eq0 c =
     let bs = c.args.rest.now in
-    let n : c.args.word + 1 - 0 ≡ c.args.word + 1 = omega arith in
     record {
       some = omega (arith, c.requires.within);
       long = omega (arith, front_minus bs c.requires.first, c.requires.word);
-      bytes_are = ap (λ k. take k bs) n;
-      apt = inr (minus_class _ (first_of_take (c.args.word + 1 - 0) bs (omega arith) ∙ c.requires.first));
+      bytes_are = refl;
+      apt = inr (minus_class _ (get_or-take (c.args.word + 1) bs 0 0 (omega arith) ∙ c.requires.first));
     }

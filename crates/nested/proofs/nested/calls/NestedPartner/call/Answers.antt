@@ -10,11 +10,11 @@ use Rattle.nested.proofs.nested.calls.NestedPartner.call.Goals as goal
 outcome_is : (outcomes : List Outcome) (i : ℕ) (r : Option Outcome) (o : Outcome) → r ≡ Some o → ElementAt (λ x. x) Skipped outcomes i r → o ≡ get_or outcomes i Skipped
 outcome_is outcomes i r o e h = (subst (λ r. ElementAt (λ x. x) Skipped outcomes i r) e h).1
 
-pub returns-in-Some : goal.returns-in-Some
-returns-in-Some g c =
+pub returns : goal.returns
+returns g c =
     let s = c.args.self.now in
     let tells = c.in-Some.ensures.evaluated in
-    let came = outcome_is _ s.result c.outcome.result c.unwrap.result c.unwrap.ensures c.outcome.ensures ∙ tells.0.outcomes_are s.result s.within in
+    let came = outcome_is _ s.result c.outcome.result c.unwrap-outcome.result c.unwrap-outcome.ensures c.outcome.ensures ∙ tells.0.outcomes_are s.result s.within in
     record {
       same = ap (nested_answers s.flow s.result) c.in-Some.ensures.answers;
       no_more = tells.1;

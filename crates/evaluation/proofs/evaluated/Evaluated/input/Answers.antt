@@ -1,8 +1,0 @@
-use Rattle.std.proofs.Common.{arith}
-use Rattle.evaluation.proofs.Elements.{element_taken}
-use Rattle.evaluation.proofs.evaluated.Evaluated.input.Goals as goal
-
-pub returns-then-activity-self : goal.returns-then-activity-self
-returns-then-activity-self c =
-    let e = c.args.self.now in
-    element_taken e.inputs e.activity_count c.args.activity _ _ (omega (arith, e.few_activities, e.input_places)) c.if-activity-self.true
