@@ -26,6 +26,7 @@ pub fn evaluate<P: Partner>(flow: &Flow, case: &Container, partner: &mut P) -> O
     let mut places = [Outcome::Skipped; 32];
     for activity in flow.by_rank() {
         let activity = usize::from(*activity);
+        // A view for each activity, since the outcomes that it lends are written to after it.
         let outcomes = Outcomes {
             flow,
             case,

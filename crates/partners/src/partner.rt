@@ -23,7 +23,7 @@ pub trait Partner {
 
     ghost busy: { Self → ℕ };
 
-    // Three parameters and no struct of them: a supplier is handed an operation, a container and a place for the output.
+    // Three parameters and no struct of them: the output is lent, so a retry would have to make the struct anew for each try.
     fn call(&mut self, operation: u16, input: &Container, output: &mut Container) -> Reply
         ensures { Called (answers self.old) (answers self.new) (busy self.old) (busy self.new) operation input.now output.new result };
 }

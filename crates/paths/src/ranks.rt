@@ -25,7 +25,7 @@ fn least_free(links: &[Link], ranked: &Marks, count: u8) -> Option<u8>
     requires { count ≤ 32 }
     ensures { LeastFree links.now ranked.now.marks count result }
 {
-    // The least comes out of a pool, as a runner's next work item does.
+    // By the pool, as the project asks: what finds a least element is written and proved once, there.
     let mut places = [ActivityNumber(0); 32];
     let mut free = Pool::new(&mut places);
     for a in 0..count {
