@@ -109,7 +109,7 @@ told bs (Extra at) r =
       answer_is = ap (λ k. answer [] (drop at bs) k) (ap length r.encode_is ∙ length-take-le at bs (omega (arith, r.more))) ∙ answer_extra (drop at bs) at (omega (arith, r.more));
     }
 
--- records with equal bytes are equal: a record is read off its numbers
+-- records with equal bytes are equal, since their numbers are those that the bytes give
 activity_same : (a b : Activity) → activity_bytes a ≡ activity_bytes b → a ≡ b
 activity_same a b e =
     let from : List ℕ → Activity = λ l. record { operation = get_or l 0 0; priority = get_or l 1 0; flags = get_or l 2 0 } in

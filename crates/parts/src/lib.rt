@@ -24,6 +24,7 @@ pub struct Link {
 pub struct Connector {
     pub target: u8,
     pub target_field: u8,
+    /// A byte as it was read: that it is the number of a kind is for the rules to say.
     pub kind: u8,
     pub source: u8,
     pub source_field: u8,

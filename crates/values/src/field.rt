@@ -5,7 +5,7 @@ use crate::amount::Amount;
 pub mod reading;
 
 /// A field of a container: blank, or an amount.
-// Not an `Option`: a blank is a value with bytes and a text of its own, and no text can be given to a type of the library.
+// Not an `Option`: a blank is a value with bytes and a text of its own, and `Option` can't be given a `Display`.
 #[derive(Clone, Copy, Debug, PartialEq, Eq)]
 pub enum Field {
     Blank,

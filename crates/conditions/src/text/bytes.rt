@@ -20,7 +20,7 @@ impl Text {
     }
 }
 
-// By hand, since a bounded list has no default.
+// By hand: no derive makes a default of a struct with ghost fields, as a bounded list is one.
 impl Default for Text {
     ghost is_default = { λ t. text_bytes t ≡ [] };
 
