@@ -30,6 +30,6 @@ pub fn show(rt: &HostRuntime, words: &[String]) -> anyhow::Result<()> {
 pub fn load(rt: &HostRuntime, file: &str) -> anyhow::Result<Option<RuleTable>> {
     let bytes = files::read(rt, file)?;
     let mut table = RuleTable::new();
-    let read = table.read(&bytes).map(|()| table);
-    Ok(showing::accepted(rt, file, read)?)
+    let read = table.read(&bytes);
+    Ok(showing::accepted(rt, file, read)?.map(|()| table))
 }

@@ -21,7 +21,7 @@ pub fn show_file(rt: &HostRuntime, file: &str) -> anyhow::Result<()> {
 pub fn load(rt: &HostRuntime, file: &str) -> anyhow::Result<Option<Flow>> {
     let bytes = files::read(rt, file)?;
     let mut flow = Flow::fresh();
-    let read = flow.read(&bytes).map(|()| flow);
+    let read = flow.read(&bytes);
     let accepted = showing::accepted(rt, file, read)?;
     if let Err(DefinitionRefusal::Rule(RuleRefusal::BadText(number, fault))) = read
         && let Ok(draft) = Draft::read(&bytes)
@@ -29,7 +29,7 @@ pub fn load(rt: &HostRuntime, file: &str) -> anyhow::Result<Option<Flow>> {
     {
         show_place(rt, text.as_bytes(), fault as usize)?;
     }
-    Ok(accepted)
+    Ok(accepted.map(|()| flow))
 }
 
 fn show_flow(rt: &HostRuntime, flow: &Flow) -> io::Result<()> {

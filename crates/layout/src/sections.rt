@@ -1,4 +1,4 @@
-ghost use Rattle.std.specs.Prelude.{◌≡◌, ℕ, ◌≤◌, List, MatchResult};
+ghost use Rattle.std.specs.Prelude.{◌≡◌, ℕ, ◌≤◌, List, [], MatchResult};
 ghost use Rattle.lists.specs.Lists.{items as elements};
 ghost use Rattle.conditions.specs.Texts.{text_bytes};
 ghost use Rattle.layout.specs.declared.reader.Reader.{Reader};
@@ -96,20 +96,21 @@ impl Element for Text {
     }
 }
 
-/// Reads a section, its count and its elements.
+/// Reads a section, its count and its elements, into an empty list.
 pub fn section<E: Element, const N: usize>(
     reader: &mut Reader,
+    list: &mut BoundedList<E, N>,
     least: usize,
     greatest: usize,
-) -> Result<BoundedList<E, N>, LayoutRefusal>
-    requires { greatest ≤ N }
-    ensures { MatchResult result (λ l. SectionIs E.Element.items E.Element.good reader.old reader.new least greatest (elements l)) (SectionStops E.Element.items E.Element.good E.Element.stops reader.old least greatest) }
+) -> Result<(), LayoutRefusal>
+    requires few { greatest ≤ N }
+    requires empty { elements list.old ≡ [] }
+    ensures { MatchResult result (λ _. SectionIs E.Element.items E.Element.good reader.old reader.new least greatest (elements list.new)) (SectionStops E.Element.items E.Element.good E.Element.stops reader.old least greatest) }
 {
     let n = reader.count(least, greatest)?;
-    let mut list = BoundedList::new(E::default());
     for _ in 0..n {
         let element = E::read(reader)?;
         list.push(element).unwrap();
     }
-    Ok(list)
+    Ok(())
 }

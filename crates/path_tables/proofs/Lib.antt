@@ -1,4 +1,3 @@
 pub mod Adding
 pub mod Found
-pub mod Rounds
 pub mod Rows

@@ -3,13 +3,11 @@ use Rattle.std.proofs.Common.{◌≡◌, ℕ, suc, ◌+◌, ◌*◌, ◌<◌, �
 use Rattle.std.proofs.Math.Nat.{lt_of_mul-lt-mul_left}
 use Rattle.std.specs.Prelude.{is_ok}
 use Rattle.std.specs.Option.{ok_or}
-use Rattle.std.specs.Result.{result_ok}
 use Rattle.std.specs.List.{flat_map}
 use Rattle.std.proofs.lemmas.Bool.{cases_lt, false≢true}
 use Rattle.std.proofs.lemmas.List.{take_at, drop_at, take-append-le, drop-append-le}
-use Rattle.lists.specs.declared.list.BoundedList.{BoundedList}
 use Rattle.lists.specs.declared.list.Full.{Full}
-use Rattle.lists.specs.Lists.{items, PushAnswers}
+use Rattle.lists.specs.Lists.{PushAnswers}
 use Rattle.values.specs.Cases.{slot}
 use Rattle.values.proofs.Records.{length_joined, slot_joined}
 use Rattle.tables.specs.declared.records.BadRecord.{BadRecord}
@@ -33,12 +31,12 @@ module _ {X : Type 0} (f : X → List ℕ) (width : ℕ) (wide : (x : X) → len
       ∙ slot_joined f width wide xs k d h
 
   -- the piece after the records so far is none
-  pub first_bad : (bs : List ℕ) (xs : List X) (piece rest : List ℕ) (d : X) → bs ≡ flat_map f xs ++ (piece ++ rest) → length piece ≡ width → ((x : X) → piece ≢ f x) → FirstBad f width bs (length xs)
-  first_bad bs xs piece rest d e long none =
+  pub first_bad : (bs : List ℕ) (xs : List X) (piece rest : List ℕ) → bs ≡ flat_map f xs ++ (piece ++ rest) → length piece ≡ width → ((x : X) → piece ≢ f x) → FirstBad f width bs (length xs)
+  first_bad bs xs piece rest e long none =
       let next : slot width bs (length xs) ≡ piece = ap (λ l. slot width l (length xs)) e ∙ ap (take width) (drop_at (flat_map f xs) (piece ++ rest) (width * length xs) (length_joined f width wide xs)) ∙ take_at piece rest width long in
       record {
         bad = λ x s. none x (sym next ∙ s);
-        good_before = λ j h. record { is = get_or xs j d; bytes_are = ap (λ l. slot width l j) e ∙ slot_before xs (piece ++ rest) j d h };
+        good_before = λ j h. let d = some xs (omega arith) in record { is = get_or xs j d; bytes_are = ap (λ l. slot width l j) e ∙ slot_before xs (piece ++ rest) j d h };
       }
 
   -- where a piece is left there are fewer records than the bytes are long for
@@ -71,18 +69,18 @@ module _ {X : Type 0} (f : X → List ℕ) (width : ℕ) (wide : (x : X) → len
       empty (b ∷ l) h = absurd (omega arith)
 
   -- the bytes of records are read
-  pub none_missed : {N : ℕ} (bs : List ℕ) (r : Result (BoundedList X N) BadRecord) → RecordsRead f width bs r → is_ok r ≡ false → (xs : List X) → bs ≢ flat_map f xs
-  none_missed bs (Ok l) p e xs same = absurd (false≢true (sym e))
-  none_missed bs (Err b) p e xs same =
+  pub none_missed : (bs : List ℕ) (l : List X) (r : Result (Unit {0}) BadRecord) → RecordsRead f width bs l r → is_ok r ≡ false → (xs : List X) → bs ≢ flat_map f xs
+  none_missed bs l (Ok u) p e xs same = absurd (false≢true (sym e))
+  none_missed bs l (Err b) p e xs same =
       let all : length bs ≡ width * length xs = ap length same ∙ length_joined f width wide xs in
       let there : b.number < length xs = lt_of_mul-lt-mul_left width (omega (arith, p.0, all)) in
       let d = some xs (omega arith) in
       p.1.bad (get_or xs b.number d) (ap (λ l. slot width l b.number) same ∙ slot_joined f width wide xs b.number d there)
 
   -- what is listed are the records that the bytes are
-  pub listed_are : {N : ℕ} (bs : List ℕ) (r : Result (BoundedList X N) BadRecord) (l : BoundedList X N) → RecordsRead f width bs r → Some l ≡ result_ok r → bs ≡ flat_map f (items l)
-  listed_are bs (Ok k) l p e = let same : k ≡ l = cc in p ∙ ap (λ (m : BoundedList X _). flat_map f (items m)) same
-  listed_are bs (Err b) l p e = absurd cc
+  pub listed_are : (bs : List ℕ) (l : List X) (r : Result (Unit {0}) BadRecord) → RecordsRead f width bs l r → is_ok r ≡ true → bs ≡ flat_map f l
+  listed_are bs l (Ok u) p e = p
+  listed_are bs l (Err b) p e = absurd (false≢true e)
 
 -- where there is room, the element is added
 pub pushed : {X : Type 0} (n : ℕ) (xs : List X) (x : X) (ys : List X) (r : Result (Unit {0}) Full) → PushAnswers n xs x ys r → {count : ℕ} → length xs < count → count ≤ n → is_ok r ≡ true

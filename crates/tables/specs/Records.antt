@@ -1,8 +1,6 @@
 -- Reading what bytes encode.
 use Rattle.std.specs.Prelude.{◌≡◌, ℕ, ◌*◌, ◌<◌, ◌≤◌, List, length, Some, None, Ok, Err, Option, Result, ◌≢◌}
 use Rattle.std.specs.List.{flat_map}
-use Rattle.lists.specs.declared.list.BoundedList.{BoundedList}
-use Rattle.lists.specs.Lists.{items}
 use Rattle.values.specs.Cases.{slot}
 use Rattle.tables.specs.declared.records.BadRecord.{BadRecord}
 
@@ -31,7 +29,7 @@ pub record WholeRecords (width n : ℕ) (bs : List ℕ) : Type 0 where
   pub length_is : length bs ≡ width * count
   pub few : count ≤ n
 
--- the records that the bytes are, or there is a first that is none
-abbrev pub RecordsRead : {X : Type 0} {N : ℕ} → (X → List ℕ) → ℕ → List ℕ → Result (BoundedList X N) BadRecord → Type 0
-RecordsRead f width bs (Ok l) = bs ≡ flat_map f (items l)
-RecordsRead f width bs (Err e) = (width * e.number < length bs) × FirstBad f width bs e.number
+-- these records are what the bytes encode, or there is a first that is none
+abbrev pub RecordsRead : {X : Type 0} → (X → List ℕ) → ℕ → List ℕ → List X → Result (Unit {0}) BadRecord → Type 0
+RecordsRead f width bs xs (Ok u) = bs ≡ flat_map f xs
+RecordsRead f width bs xs (Err e) = (width * e.number < length bs) × FirstBad f width bs e.number

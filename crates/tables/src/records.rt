@@ -1,4 +1,5 @@
-ghost use Rattle.std.specs.Prelude.{◌≡◌, ℕ, ◌<◌, List, length};
+ghost use Rattle.std.specs.Prelude.{◌≡◌, ℕ, ◌<◌, List, [], length};
+ghost use Rattle.lists.specs.Lists.{items};
 ghost use Rattle.tables.specs.Records.{Reads, WholeRecords, RecordsRead};
 
 use lists::BoundedList;
@@ -27,19 +28,19 @@ pub(crate) struct BadRecord {
     pub(crate) number: usize,
 }
 
-/// The records that bytes are, at most `N`.
+/// Reads the records that bytes are, at most `N`, into an empty list.
 pub(crate) fn read_records<R: Record, const N: usize>(
     bytes: &[u8],
-    filler: R,
-) -> Result<BoundedList<R, N>, BadRecord>
-    requires { WholeRecords R.Record.WIDTH N bytes.now }
-    ensures { RecordsRead R.Record.encoding R.Record.WIDTH bytes.now result }
+    records: &mut BoundedList<R, N>,
+) -> Result<(), BadRecord>
+    requires whole { WholeRecords R.Record.WIDTH N bytes.now }
+    requires empty { items records.old ≡ [] }
+    ensures { RecordsRead R.Record.encoding R.Record.WIDTH bytes.now (items records.new) result }
 {
-    let mut records = BoundedList::new(filler);
     for piece in bytes.chunks_exact(R::WIDTH) {
         let number = records.len();
         let record = R::read(piece).ok_or(BadRecord { number })?;
         records.push(record).unwrap();
     }
-    Ok(records)
+    Ok(())
 }

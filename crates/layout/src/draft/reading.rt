@@ -6,6 +6,7 @@ use crate::reader::Reader;
 use crate::refusal::LayoutRefusal;
 use crate::sections::section;
 use conditions::text::Text;
+use lists::BoundedList;
 use parts::{Activity, Connector, Link};
 
 impl Draft {
@@ -17,11 +18,15 @@ impl Draft {
         ensures one_encoding { OneEncoding }
     {
         let mut reader = Reader::new(bytes);
-        let activities = section::<Activity, 32>(&mut reader, 1, 32)?;
-        let links = section::<Link, 128>(&mut reader, 0, 128)?;
-        let connectors = section::<Connector, 256>(&mut reader, 0, 256)?;
+        let mut activities = BoundedList::new(Activity::default());
+        section(&mut reader, &mut activities, 1, 32)?;
+        let mut links = BoundedList::new(Link::default());
+        section(&mut reader, &mut links, 0, 128)?;
+        let mut connectors = BoundedList::new(Connector::default());
+        section(&mut reader, &mut connectors, 0, 256)?;
         let text_count = links.len() + activities.len();
-        let texts = section::<Text, 160>(&mut reader, text_count, text_count)?;
+        let mut texts = BoundedList::new(Text::default());
+        section(&mut reader, &mut texts, text_count, text_count)?;
         reader.end()?;
         Ok(Draft {
             activities,

@@ -24,7 +24,7 @@ fn end_pairs(links: &[Link], count: usize) -> Option<ActivityPairs>
 
 impl Reach {
     /// All paths of links among the activities below `count`, of which there are at most 32.
-    #[tactic(auto, using(crate::proofs::Rounds::tabled_by_rows))]
+    #[tactic(auto, using(path_laws::proofs::Via::tabled_round))]
     pub fn of(links: &[Link], count: usize) -> Option<Reach>
         ensures { ReachAnswers links.now count result }
     {
@@ -33,7 +33,7 @@ impl Reach {
         }
         let mut pairs = end_pairs(links, count)?;
         for k in 0..count as u8 {
-            pairs.join_through(k);
+            pairs.join_through(k, count);
         }
         Some(Reach { pairs })
     }

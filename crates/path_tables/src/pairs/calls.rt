@@ -1,4 +1,4 @@
-ghost use Rattle.std.specs.Prelude.{◌≡◌, ℕ, false};
+ghost use Rattle.std.specs.Prelude.{◌≡◌, ℕ, ◌≤◌, false};
 ghost use Rattle.path_laws.specs.Tables.{Joins};
 ghost use Rattle.path_tables.specs.Pairs.{paired, OnePairMore};
 ghost use Rattle.path_tables.specs.Sets.{has};
@@ -41,15 +41,17 @@ impl ActivityPairs {
         }
     }
 
-    /// Pairs each number that is paired with `k` with all that `k` is paired with.
+    /// Pairs each number below `count` that is paired with `k` with all that `k` is paired with.
     #[tactic(auto, using(path_laws::proofs::Tables::joins_none, path_laws::proofs::Tables::joins_row, path_laws::proofs::Tables::joins_past, crate::proofs::Rows::same_row, crate::proofs::Rows::other_row))]
-    pub(crate) fn join_through(&mut self, k: u8)
-        ensures { Joins 32 k (paired self.old) (paired self.new) }
+    pub(crate) fn join_through(&mut self, k: u8, count: usize)
+        requires { count ≤ 32 }
+        ensures { Joins count k (paired self.old) (paired self.new) }
     {
         let through = self.row(k);
-        for row in self.rows.iter_mut() {
+        for a in 0..count {
+            let row = self.rows[a];
             if row.contains(k) {
-                *row = row.union(through);
+                self.rows[a] = row.union(through);
             }
         }
     }

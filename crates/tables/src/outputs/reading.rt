@@ -8,6 +8,7 @@ ghost use Rattle.tables.specs.Answers.{output_over};
 use super::Outputs;
 use crate::records::read_records;
 use crate::source::Source;
+use lists::BoundedList;
 use values::container::Container;
 use values::field::Field;
 
@@ -27,7 +28,8 @@ impl Outputs {
     pub(crate) fn read(bytes: &[u8; 72]) -> Option<Outputs>
         ensures { Reads outputs_bytes bytes.now result }
     {
-        let listed = read_records::<Source, 8>(bytes, BLANK).ok()?;
+        let mut listed = BoundedList::<Source, 8>::new(BLANK);
+        read_records(bytes, &mut listed).ok()?;
         let sources = <[Source; 8]>::try_from(listed.as_slice()).unwrap();
         Some(Outputs { sources })
     }

@@ -34,8 +34,9 @@ impl RuleTable {
         if count > 64 || rows.len() != Row::WIDTH * count {
             return Err(TableRefusal::Size);
         }
-        let rows = read_records(rows, Row::unused())?;
-        *self = RuleTable { rows };
+        let mut read = RuleTable::new();
+        read_records(rows, &mut read.rows)?;
+        *self = read;
         Ok(())
     }
 }

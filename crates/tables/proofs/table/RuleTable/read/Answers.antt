@@ -12,10 +12,10 @@ returns-then-count-gt64-clause-verdict c =
       refl,
     )
 
-pub returns-in_err-rows-clause-verdict : goal.returns-in_err-rows-clause-verdict
-returns-in_err-rows-clause-verdict c =
+pub returns-in_err-read_records-clause-verdict : goal.returns-in_err-read_records-clause-verdict
+returns-in_err-read_records-clause-verdict c =
     let stands = c.from-count.ensures ∙ c.from_le_bytes.ensures in
-    let bad = c.in_err-rows.ensures in
+    let bad = c.in_err-read_records.ensures in
     let p = err_from_is_err_and c.from_residual.result c.from_residual.ensures.1 in
     rw (p.1, p.2) (row_refused c.args.bytes.now c.from-count.result c.in-len2-up.len_at_least stands (omega (arith, c.type_inv.bytes 0)) c.if-count-gt64.false c.if-rows-count.false _ bad.0 bad.1, refl)
 
@@ -23,7 +23,7 @@ pub returns-clause-verdict : goal.returns-clause-verdict
 returns-clause-verdict c =
     let stands = c.from-count.ensures ∙ c.from_le_bytes.ensures in
     record {
-      rows = items c.in_ok-rows.rows;
-      encoded = table_from_rows c.args.bytes.now c.from-count.result c.in-len2-up.len_at_least stands (omega (arith, c.type_inv.bytes 0)) c.if-count-gt64.false c.if-rows-count.false _ c.in_ok-rows.ensures;
+      rows = items c.read_records.new.records;
+      encoded = table_from_rows c.args.bytes.now c.from-count.result c.in-len2-up.len_at_least stands (omega (arith, c.type_inv.bytes 0)) c.if-count-gt64.false c.if-rows-count.false _ c.in_ok-read_records.ensures;
       table_is = record { rows_are = refl; answers_are = refl; busy_is = refl };
     }
