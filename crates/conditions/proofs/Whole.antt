@@ -1,7 +1,7 @@
 -- A text as a whole.
-use Rattle.std.proofs.Common.{◌≡◌, ℕ, List, map, length, Ok, Err, Result, ap, subst}
+use Rattle.std.proofs.Common.{◌≡◌, ℕ, Bool, List, map, length, Ok, Err, Result, ap, subst}
 use mathlib.Core.Path.{subst⁻¹}
-use Rattle.grammar.specs.Grammar.{condition}
+use Rattle.grammar.specs.Grammar.{Kind, Test, condition}
 use Rattle.grammar.specs.Parsing.{Done}
 use Rattle.grammar.proofs.OneTree as trees
 use Rattle.grammar.proofs.Whole.{failed_fault, left_over_fault, one_fault}
@@ -12,7 +12,7 @@ use Rattle.conditions.specs.declared.ground.Ground.{Ground}
 use Rattle.conditions.specs.declared.parser.Parser.{Parser}
 use Rattle.conditions.specs.Truths.{Truth}
 use Rattle.conditions.specs.Values.{value, kind_of, tests_of}
-use Rattle.conditions.specs.Texts.{FaultPlace, OneReading, OneVerdict}
+use Rattle.conditions.specs.Texts.{FaultPlace, Weighed, Checked, OneReading, OneVerdict}
 use Rattle.conditions.specs.Steps.{Parsed, ParsedFrom, end_of, Ended, Begun}
 use Rattle.conditions.proofs.Reading.{ahead_is}
 
@@ -39,3 +39,7 @@ one_verdict text = record {
   one_fault = λ k p q a b. one_fault.same k _ _ p q a b;
   not_both = λ k t p r f. one_fault.none k _ _ t p r f;
 }
+
+-- a text that is weighed is checked
+pub checked : {k : Kind} {tests : Test → Truth} (text : List ℕ) (r : Result Bool Fault) (b : Bool) → Weighed k tests text (Ok b) → Checked k text (Ok tt)
+checked text r b h = (h.tree, h.reads)

@@ -114,10 +114,10 @@ pub read_end : {bs : List ℕ} {r : Reader} {p : Parts} → Whole bs r p → r.r
 read_end {p = p} w h = (w.limits, w.read.bytes_are ∙ ap (λ l. encode p ++ l) h ∙ append-nil (encode p))
 
 -- the answer is a verdict, so it is the only one
-accepted_parts : (bs : List ℕ) {p : Parts} → Judged bs (accepted p) → (q : Parts) → WithinLimits q → bs ≡ encode q → p ≡ q
+pub accepted_parts : (bs : List ℕ) {p : Parts} → Judged bs (accepted p) → (q : Parts) → WithinLimits q → bs ≡ encode q → p ≡ q
 accepted_parts bs {p} h q l e = let same : accepted p ≡ accepted q = one_verdict bs (accepted p) (accepted q) h (l, e) in cc
 
-read_as_written : (bs : List ℕ) (r : Result Draft LayoutRefusal) → LayoutRead bs r → ReadAsWritten bs r
+pub read_as_written : (bs : List ℕ) (r : Result Draft LayoutRefusal) → LayoutRead bs r → ReadAsWritten bs r
 read_as_written bs (Ok d) h p l e = accepted_parts bs h p l e
 read_as_written bs (Err d) h p l e = let same : refused d ≡ accepted p = one_verdict bs (refused d) (accepted p) h (l, e) in let z : ◌≡◌ {A = ℕ} 0 1 = cc in omega arith
 

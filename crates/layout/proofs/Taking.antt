@@ -17,6 +17,9 @@ took_more {c = c} {xs = xs} {ys = ys} p q = record {
   at_is = omega (arith, length-append xs ys, p.at_is, q.at_is);
 }
 
+pub took_items : {a b c : Reader} (is js : List Item) → Took a b (bytes_of is) → Took b c (bytes_of js) → Took a c (bytes_of (is ++ js))
+took_items is js p q = rw (bytes_append is js) (took_more p q)
+
 -- no elements, and one more
 pub filled_none : {X : Type 0} (items : X → List Item) (good : X → Type 0) (r : Reader) → Filled items good r r []
 filled_none items good r = record { took = record { rest_is = refl; at_is = omega arith }; fine = tt }

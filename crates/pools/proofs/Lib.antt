@@ -1,2 +1,3 @@
+pub mod Least
 pub mod Rising
 pub mod Shift

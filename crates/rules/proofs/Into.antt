@@ -1,7 +1,7 @@
 -- The links into an activity, one by one.
-use Rattle.std.proofs.Common.{◌≡◌, ℕ, ◌+◌, ◌<◌, cond, eqb, List, [], ◌∷◌, ◌++◌, length, drop, Some, Ok, Err, Result, sym, ap, ◌∙◌, append_assoc, add-one}
+use Rattle.std.proofs.Common.{◌≡◌, ℕ, ◌+◌, ◌<◌, ◌≤◌, cond, eqb, List, [], ◌∷◌, ◌++◌, length, drop, Some, Ok, Err, Result, sym, ap, ◌∙◌, append_assoc, add-one}
 use Rattle.std.specs.Result.{OkIff, result_ok}
-use Rattle.std.proofs.lemmas.List.{drop_more, map-append}
+use Rattle.std.proofs.lemmas.List.{drop_more, drop_all, map-append}
 use Rattle.std.proofs.lemmas.Bool.{cond-true, cond-false, eq-eqb, ne_eqb}
 use Rattle.lists.specs.declared.list.Full.{Full}
 use Rattle.lists.specs.Lists.{PushAnswers}
@@ -16,14 +16,17 @@ into_at links k a h =
     ap (λ l. into k l a) (drop_more links k (record { source = 0; target = 0 }) h)
     ∙ ap (λ n. cond (eqb (link_at links k).target a) (k ∷ into n (drop (k + 1) links) a) (into n (drop (k + 1) links) a)) (sym (add-one k))
 
-into_here : (links : List Link) (k a : ℕ) → k < length links → (link_at links k).target ≡ a → into k (drop k links) a ≡ k ∷ into (k + 1) (drop (k + 1) links) a
+pub into_here : (links : List Link) (k a : ℕ) → k < length links → (link_at links k).target ≡ a → into k (drop k links) a ≡ k ∷ into (k + 1) (drop (k + 1) links) a
 into_here links k a h e = into_at links k a h ∙ cond-true _ _ _ (eq-eqb _ a e)
 
-into_past : (links : List Link) (k a : ℕ) → k < length links → ((link_at links k).target ≡ a → ⊥) → into k (drop k links) a ≡ into (k + 1) (drop (k + 1) links) a
+pub into_past : (links : List Link) (k a : ℕ) → k < length links → ((link_at links k).target ≡ a → ⊥) → into k (drop k links) a ≡ into (k + 1) (drop (k + 1) links) a
 into_past links k a h e = into_at links k a h ∙ cond-false _ _ _ (ne_eqb _ a e)
 
+pub into_end : (links : List Link) (k a : ℕ) → length links ≤ k → into k (drop k links) a ≡ []
+into_end links k a h = ap (λ l. into k l a) (drop_all k links h)
+
 -- one link more is listed
-one_more : (list more : List Incoming) (x : Incoming) (rest : List ℕ) → more ≡ list ++ x ∷ [] → links_of more ++ rest ≡ links_of list ++ (x.link ∷ rest)
+pub one_more : (list more : List Incoming) (x : Incoming) (rest : List ℕ) → more ≡ list ++ x ∷ [] → links_of more ++ rest ≡ links_of list ++ (x.link ∷ rest)
 one_more list more x rest e =
     ap (λ l. links_of l ++ rest) e
     ∙ ap (λ l. l ++ rest) (map-append (λ (i : Incoming). i.link) list (x ∷ []))

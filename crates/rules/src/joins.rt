@@ -5,7 +5,7 @@ use conditions::ground::Incoming;
 use lists::BoundedList;
 use parts::Link;
 
-/// The links into an activity, in their order, each with the status that its number is given. There is no list where there are more than 128 links.
+/// The links into an activity, in their order, each with the status that its number is given. Of at most 128 links there is always a list.
 pub fn incoming<F: Fn(usize) -> bool>(
     links: &[Link],
     activity: usize,

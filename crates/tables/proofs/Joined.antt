@@ -15,7 +15,7 @@ use Rattle.tables.specs.Records.{FirstBad, RecordsRead}
 use Rattle.tables.proofs.Pieces.{some}
 
 -- one more record still ends within the bytes
-within : (w k n : ℕ) → k < n → w * k + w ≤ w * n
+pub within : (w k n : ℕ) → k < n → w * k + w ≤ w * n
 within w k n h =
     let more : w * suc k ≤ w * n = mul-le-mul_left w h in
     omega (arith, mul-suc w k)

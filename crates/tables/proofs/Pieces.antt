@@ -1,5 +1,5 @@
 -- Bytes and lists taken apart.
-use Rattle.std.proofs.Common.{◌≡◌, ℕ, ◌+◌, ◌-◌, ◌*◌, ◌/◌, ◌%◌, ◌<◌, List, [], ◌∷◌, ◌++◌, length, get_or, take, drop, sym, ap, ◌∙◌, take-append-drop, arith, w16}
+use Rattle.std.proofs.Common.{◌≡◌, ℕ, ◌+◌, ◌-◌, ◌*◌, ◌/◌, ◌%◌, ◌<◌, List, [], ◌∷◌, ◌++◌, length, get_or, take, drop, sym, refl, ap, ◌∙◌, take-append-drop, arith, w16}
 use Rattle.std.proofs.lemmas.List.{take_all}
 use Rattle.std.specs.Int.{from_le_bytes}
 use Rattle.tables.specs.Layout.{two_bytes}
@@ -14,6 +14,18 @@ pub two_and_rest : (bs : List ℕ) (n : ℕ) → length bs ≡ n + 2 → bs ≡ 
 two_and_rest [] n h = absurd (omega arith)
 two_and_rest (a ∷ []) n h = absurd (omega arith)
 two_and_rest (a ∷ b ∷ bs) n h = ap (λ r. a ∷ b ∷ r) (sym (take_all n bs (omega arith)))
+
+pub eight_listed : {X : Type 0} (xs : List X) (d₀ d₁ d₂ d₃ d₄ d₅ d₆ d₇ : X) → length xs ≡ 8 → xs ≡ get_or xs 0 d₀ ∷ get_or xs 1 d₁ ∷ get_or xs 2 d₂ ∷ get_or xs 3 d₃ ∷ get_or xs 4 d₄ ∷ get_or xs 5 d₅ ∷ get_or xs 6 d₆ ∷ get_or xs 7 d₇ ∷ []
+eight_listed [] d₀ d₁ d₂ d₃ d₄ d₅ d₆ d₇ h = absurd (omega arith)
+eight_listed (a ∷ []) d₀ d₁ d₂ d₃ d₄ d₅ d₆ d₇ h = absurd (omega arith)
+eight_listed (a ∷ b ∷ []) d₀ d₁ d₂ d₃ d₄ d₅ d₆ d₇ h = absurd (omega arith)
+eight_listed (a ∷ b ∷ c ∷ []) d₀ d₁ d₂ d₃ d₄ d₅ d₆ d₇ h = absurd (omega arith)
+eight_listed (a ∷ b ∷ c ∷ d ∷ []) d₀ d₁ d₂ d₃ d₄ d₅ d₆ d₇ h = absurd (omega arith)
+eight_listed (a ∷ b ∷ c ∷ d ∷ e ∷ []) d₀ d₁ d₂ d₃ d₄ d₅ d₆ d₇ h = absurd (omega arith)
+eight_listed (a ∷ b ∷ c ∷ d ∷ e ∷ f ∷ []) d₀ d₁ d₂ d₃ d₄ d₅ d₆ d₇ h = absurd (omega arith)
+eight_listed (a ∷ b ∷ c ∷ d ∷ e ∷ f ∷ g ∷ []) d₀ d₁ d₂ d₃ d₄ d₅ d₆ d₇ h = absurd (omega arith)
+eight_listed (a ∷ b ∷ c ∷ d ∷ e ∷ f ∷ g ∷ k ∷ []) d₀ d₁ d₂ d₃ d₄ d₅ d₆ d₇ h = refl
+eight_listed (a ∷ b ∷ c ∷ d ∷ e ∷ f ∷ g ∷ k ∷ l ∷ xs) d₀ d₁ d₂ d₃ d₄ d₅ d₆ d₇ h = absurd (omega arith)
 
 -- the number that two bytes are
 pub two_read : (n a b : ℕ) → n ≡ a + b * 256 → a < 256 → two_bytes n ≡ a ∷ b ∷ []

@@ -63,7 +63,7 @@ module _ (bs : List ℕ) (count : ℕ) (front : 2 ≤ length bs) (stands : count
   rest = take (length bs - 2) (drop 2 bs)
 
   -- the front of bytes is the count that stands there
-  front_is : take 2 bs ≡ two_bytes count
+  pub front_is : take 2 bs ≡ two_bytes count
   front_is = go bs front (two_read count _ _ stands low)
     where
       go : (l : List ℕ) → 2 ≤ length l → two_bytes count ≡ get_or l 0 0 ∷ get_or l 1 0 ∷ [] → take 2 l ≡ two_bytes count

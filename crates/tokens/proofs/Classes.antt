@@ -23,6 +23,10 @@ unfolding class
 class_sign b e =
     ⊎_elim inl (λ a. ⊎_elim (λ h. inr (inl h)) (λ c. ⊎_elim (λ h. inr (inr (inl h))) (λ d. inr (inr (inr (grind (arith, nat_tests))))) (cases_eq b 62)) (cases_eq b 61)) (cases_eq b 60)
 
+pub class_parenthesis : (b : ℕ) → class b ≡ Parenthesis → (b ≡ 40) ⊎ (b ≡ 41)
+unfolding class
+class_parenthesis b e = ⊎_elim inl (λ a. inr (grind (arith, nat_tests))) (cases_eq b 40)
+
 pub space_class : (b : ℕ) → b ≡ 32 → class b ≡ Space
 unfolding class
 space_class b e = grind (arith, nat_tests)

@@ -1,8 +1,8 @@
 -- Lemmas on longest runs.
-use Rattle.std.proofs.Common.{◌≡◌, ℕ, suc, ◌<◌, ◌≤◌, Bool, true, List, [], ◌∷◌, ◌++◌, length, get_or, take, ap, refl, cond, ◌∙◌, arith}
-use Rattle.std.proofs.lemmas.List.{get_or_past}
+use Rattle.std.proofs.Common.{◌≡◌, ℕ, suc, ◌+◌, ◌<◌, ◌≤◌, Bool, true, false, List, [], ◌∷◌, ◌++◌, length, get_or, take, drop, ap, refl, cond, ◌∙◌, arith}
+use Rattle.std.proofs.lemmas.List.{drop_all, drop_more, get_or_past}
 use Rattle.std.proofs.lemmas.List.Sums.{prefix_len-le-length}
-use Rattle.std.proofs.lemmas.Bool.{cond-true, cond_both}
+use Rattle.std.proofs.lemmas.Bool.{cond-true, cond-false, cond_both}
 use Rattle.std.specs.List.{AllByRecursion, prefix_len}
 use Rattle.tokens.specs.Tokens.{span}
 
@@ -10,6 +10,15 @@ use Rattle.tokens.specs.Tokens.{span}
 pub span_prefix : (f : ℕ → Bool) (xs : List ℕ) → prefix_len f xs ≡ span f xs
 span_prefix f [] = refl
 span_prefix f (x ∷ xs) = ap (λ n. cond (f x) n 0) (omega (arith, span_prefix f xs))
+
+pub span_more : (f : ℕ → Bool) (xs : List ℕ) (i : ℕ) → i < length xs → f (get_or xs i 0) ≡ true → span f (drop i xs) ≡ suc (span f (drop (i + 1) xs))
+span_more f xs i h e = ap (span f) (drop_more xs i 0 h) ∙ cond-true _ _ _ e
+
+pub span_stop : (f : ℕ → Bool) (xs : List ℕ) (i : ℕ) → i < length xs → f (get_or xs i 0) ≡ false → span f (drop i xs) ≡ 0
+span_stop f xs i h e = ap (span f) (drop_more xs i 0 h) ∙ cond-false _ _ _ e
+
+pub span_end : (f : ℕ → Bool) (xs : List ℕ) (i : ℕ) → length xs ≤ i → span f (drop i xs) ≡ 0
+span_end f xs i h = ap (span f) (drop_all i xs h)
 
 pub span_le : (f : ℕ → Bool) (xs : List ℕ) → span f xs ≤ length xs
 span_le f xs = omega (arith, span_prefix f xs, prefix_len-le-length f xs)

@@ -38,6 +38,9 @@ pub range_fits : (z : ℤ) → InRange z → SFits w64 z
 range_fits (pos n) h = record { sfits = omega (arith, ints) }
 range_fits (negsuc n) h = record { sfits = omega (arith, ints) }
 
+pub bits_same : (x y : ℤ) → InRange x → InRange y → of_z w64 x ≡ of_z w64 y → x ≡ y
+bits_same x y p q e = sym (to_z-of_z w64 x (range_fits x p)) ∙ ap (to_z w64) e ∙ to_z-of_z w64 y (range_fits y q)
+
 pub same_field : (f g : Field) → field_bytes f ≡ field_bytes g → f ≡ g
 same_field Blank Blank e = refl
 same_field Blank (Number b) e = absurd (let h : ◌≡◌ {A = ℕ} 0 1 = cc in omega arith)
