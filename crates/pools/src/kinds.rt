@@ -51,7 +51,8 @@ impl Ordered for WorkItem {
     fn is_before(&self, other: &WorkItem) -> bool
         ensures { Decides result ((self.now.priority < other.now.priority) ⊎ ((self.now.priority ≡ other.now.priority) × (self.now.activity < other.now.activity))) }
     {
-        *self < *other
+        self.priority < other.priority
+            || self.priority == other.priority && self.activity < other.activity
     }
 }
 

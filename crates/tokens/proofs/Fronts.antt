@@ -52,8 +52,8 @@ short_sign : (k : Class) (bs : List ℕ) → None ≡ long_sign (get_or bs 0 0) 
 short_sign k bs n e s = let h = class_sign _ (sym e ∙ s) in rw s (grind (arith, nat_tests))
 
 -- what begins no word, no sign of two bytes and no minus stands alone
-pub front_single : (bs : List ℕ) (k : Class) → k ≡ class (get_or bs 0 0) → (k ≡ Letter → ⊥) → (k ≡ Digit → ⊥) → None ≡ long_sign (get_or bs 0 0) (get_or bs 1 0) → (get_or bs 0 0 ≡ 45 → ⊥) → front bs ≡ 1
-front_single bs k e l d n m = front_at k bs (sym e) ∙ one_byte k bs l d (λ x. m (class_minus _ (sym e ∙ x))) (short_sign k bs n e)
+pub front_single : (bs : List ℕ) (k : Class) → k ≡ class (get_or bs 0 0) → (k ≡ Letter → ⊥) → (k ≡ Digit → ⊥) → (k ≡ Sign → None ≡ long_sign (get_or bs 0 0) (get_or bs 1 0)) → (get_or bs 0 0 ≡ 45 → ⊥) → front bs ≡ 1
+front_single bs k e l d n m = front_at k bs (sym e) ∙ one_byte k bs l d (λ x. m (class_minus _ (sym e ∙ x))) (λ s. short_sign k bs (n s) e s)
 
 long_sign_first : (b c : ℕ) (s : Comparison) → ◌≡◌ (Some s) (long_sign b c) → (b ≡ 60) ⊎ ((b ≡ 61) ⊎ ((b ≡ 62) ⊎ (b ≡ 33)))
 long_sign_first b c s e = grind (arith, nat_tests)

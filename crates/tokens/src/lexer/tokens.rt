@@ -90,9 +90,6 @@ fn plain<'a>(rest: &'a [u8], first: u8) -> (Token<'a>, usize)
     requires no_minus { first ≢ 45 }
     ensures { FrontIs rest.now result.0 result.1 }
 {
-    if let Some(sign) = double(rest) {
-        return (Token::Sign(sign), 2);
-    }
     match Class::of(first) {
         Class::Letter => {
             let n = run_length(rest);
@@ -102,6 +99,10 @@ fn plain<'a>(rest: &'a [u8], first: u8) -> (Token<'a>, usize)
             let n = run_length(rest);
             (Token::Number(&rest[..n]), n)
         }
+        Class::Sign => match double(rest) {
+            Some(sign) => (Token::Sign(sign), 2),
+            None => (single(first), 1),
+        },
         _ => (single(first), 1),
     }
 }
