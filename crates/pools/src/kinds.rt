@@ -51,6 +51,7 @@ impl Ordered for WorkItem {
     fn is_before(&self, other: &WorkItem) -> bool
         ensures { Decides result ((self.now.priority < other.now.priority) ⊎ ((self.now.priority ≡ other.now.priority) × (self.now.activity < other.now.activity))) }
     {
+        // Not `*self < *other`, which makes taking out of a full pool 1.7 times as slow.
         self.priority < other.priority
             || self.priority == other.priority && self.activity < other.activity
     }

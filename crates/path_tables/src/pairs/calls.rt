@@ -48,6 +48,7 @@ impl ActivityPairs {
         ensures { Joins count k (paired self.old) (paired self.new) }
     {
         let through = self.row(k);
+        // By number: a part of the rows can't be lent here, and after a `take` no proof knows what was written to them.
         for a in 0..count {
             let row = self.rows[a];
             if row.contains(k) {
