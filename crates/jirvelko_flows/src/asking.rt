@@ -11,14 +11,15 @@ pub fn show(rt: &HostRuntime, words: &[String]) -> anyhow::Result<()> {
         return Err(anyhow!("ask wants a table, an operation and a case"));
     };
     let operation = operation.as_str().parse::<u16>()?;
-    let Some(mut table) = load(rt, table.as_str())? else {
+    let mut partner = RuleTable::new();
+    if load(rt, table.as_str(), &mut partner)?.is_none() {
         return Ok(());
-    };
+    }
     let Some(input) = cases::load(rt, case.as_str())? else {
         return Ok(());
     };
     let mut output = Container::blank();
-    match table.call(operation, &input, &mut output) {
+    match partner.call(operation, &input, &mut output) {
         Reply::Done => println!(rt; "{output}")?,
         Reply::Fault(fault) => println!(rt; "fault {fault}")?,
         Reply::Busy => println!(rt; "busy")?,
@@ -26,10 +27,9 @@ pub fn show(rt: &HostRuntime, words: &[String]) -> anyhow::Result<()> {
     Ok(())
 }
 
-/// The table in a file; where it is refused, that is shown.
-pub fn load(rt: &HostRuntime, file: &str) -> anyhow::Result<Option<RuleTable>> {
+/// Reads the table in a file; where it is refused, that is shown. The table is lent, as a flow is.
+pub fn load(rt: &HostRuntime, file: &str, table: &mut RuleTable) -> anyhow::Result<Option<()>> {
     let bytes = files::read(rt, file)?;
-    let mut table = RuleTable::new();
     let read = table.read(&bytes);
-    Ok(showing::accepted(rt, file, read)?.map(|()| table))
+    Ok(showing::accepted(rt, file, read)?)
 }

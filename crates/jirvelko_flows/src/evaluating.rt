@@ -8,6 +8,7 @@ use evaluation::evaluating::evaluate;
 use evaluation_laws::Outcome;
 use flows::flow::Flow;
 use std::io;
+use tables::table::RuleTable;
 
 pub fn show_sample(rt: &HostRuntime) -> anyhow::Result<()> {
     println!(rt; "what the loan comes to")?;
@@ -26,13 +27,15 @@ pub fn show(rt: &HostRuntime, words: &[String]) -> anyhow::Result<()> {
     show_files(rt, flow.as_str(), table.as_str(), case.as_str())
 }
 
-fn show_files(rt: &HostRuntime, flow: &str, table: &str, case: &str) -> anyhow::Result<()> {
-    let Some(flow) = checking::load(rt, flow)? else {
+fn show_files(rt: &HostRuntime, flow_file: &str, table: &str, case: &str) -> anyhow::Result<()> {
+    let mut flow = Flow::fresh();
+    if checking::load(rt, flow_file, &mut flow)?.is_none() {
         return Ok(());
-    };
-    let Some(mut partner) = asking::load(rt, table)? else {
+    }
+    let mut partner = RuleTable::new();
+    if asking::load(rt, table, &mut partner)?.is_none() {
         return Ok(());
-    };
+    }
     let Some(case) = cases::load(rt, case)? else {
         return Ok(());
     };
