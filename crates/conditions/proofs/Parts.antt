@@ -1,10 +1,10 @@
 -- What the symbols after a part mean for it.
-use Rattle.std.proofs.Common.{◌≡◌, ℕ, List, [], ◌∷◌, ◌++◌, Some, None, Ok, Err, Option, Result, refl, ap, ◌∙◌, subst, ⊎_elim, append-nil}
+use Rattle.std.proofs.Common.{◌≡◌, ℕ, List, [], ◌∷◌, ◌++◌, Some, None, Ok, Err, Option, Result, refl, ap, ◌∙◌, subst, ⊎_elim, append-nil, arith}
 use mathlib.Core.Path.{subst⁻¹}
 use Rattle.std.specs.Option.{ok_or}
 use Rattle.std.specs.Result.{IsErrAnd, result_ok}
 use Rattle.std.proofs.lemmas.Result.{err_from_is_err_and}
-use Rattle.grammar.specs.Symbols.{bad}
+use Rattle.grammar.specs.Symbols.{Operand, operand, sign, bad}
 use Rattle.grammar.specs.Grammar.{Kind, Level, Tree, Reads}
 use Rattle.grammar.specs.Faults.{Located, symbols}
 use Rattle.grammar.specs.Parsing.{State, step, dead, Done, Failed, place_of, want}
@@ -15,11 +15,19 @@ use Rattle.tokens.specs.declared.lexer.Lexer.{Lexer}
 use Rattle.tokens.specs.declared.symbol.Symbol.{Symbol}
 use Rattle.tokens.specs.Symbols.{meaning}
 use Rattle.tokens.specs.Following.{FollowsBy, text_of}
+use Rattle.values.specs.declared.amount.Comparison.{Comparison}
 use Rattle.conditions.specs.declared.ground.Ground.{Ground}
 use Rattle.conditions.specs.declared.parser.Parser.{Parser}
 use Rattle.conditions.specs.Truths.{Truth}
 use Rattle.conditions.specs.Values.{kind_of, tests_of}
 use Rattle.conditions.specs.Steps.{Kept, Step, ParsedFrom, Read, Unread, end_of}
+
+-- a bad token is neither a sign nor an operand
+pub bad_no_sign : ((c : Comparison) × (bad ≡ sign c)) → ⊥
+bad_no_sign h = let e = h.1 in let z : ◌≡◌ {A = ℕ} 0 1 = cc in omega arith
+
+pub bad_no_operand : ((x : Operand) × (bad ≡ operand x)) → ⊥
+bad_no_operand h = let e = h.1 in let z : ◌≡◌ {A = ℕ} 0 1 = cc in omega arith
 
 -- a part that is followed by a bad token stops there
 pub bad_follows : {k : Kind} {l : Level} {end : ℕ} {means : Tree → Type 0} {before after rest : List Located} {place : ℕ} → Done k l means before after → after ≡ (place, bad) ∷ rest → Failed k l end before place

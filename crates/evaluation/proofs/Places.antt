@@ -6,6 +6,7 @@ use Rattle.std.proofs.ByRecursion.{All-weaker}
 use Rattle.std.proofs.lemmas.List.{get_or_default}
 use Rattle.std.proofs.lemmas.List.FromFn.{length-map-range_with_len, map-range_with_len_more}
 use Rattle.std.proofs.lemmas.Bool.{cases_Bool, cond-true, cond-false, eqb-true, both_ways}
+use Rattle.values.specs.declared.container.Container.{Container}
 use Rattle.lists.specs.declared.list.BoundedList.{BoundedList}
 use Rattle.lists.specs.declared.list.Full.{Full}
 use Rattle.lists.specs.Lists.{items, PushAnswers}
@@ -17,11 +18,18 @@ use Rattle.rules.specs.Joins.{LinksListed, StatusesBy}
 use Rattle.rules.specs.Rules.{into}
 use Rattle.evaluation_laws.specs.declared.Outcome.{Outcome}
 use Rattle.evaluation_laws.specs.declared.Outcome.TheVariants.{Skipped}
+use Rattle.evaluation_laws.specs.Plans.{Plan}
+use Rattle.evaluation_laws.specs.Evaluations.{input_of}
 use Rattle.evaluation.specs.Flows.{valuation_of, HaveStatuses}
+use Rattle.evaluation.specs.Evaluated.{input_by, given_input}
 
 -- an outcome that was read at its place
 pub outcome_read : (outcomes : List Outcome) (i j : ℕ) (o : Outcome) → i ≡ j → i < length outcomes → o ≡ get_or outcomes i o → valuation_of outcomes j ≡ o
 outcome_read outcomes i j o e h is = ap (λ (n : ℕ). get_or outcomes n Skipped) (sym e) ∙ get_or_default outcomes i Skipped o h ∙ sym is
+
+-- where the outcome that was read is o, so is the input
+given_by : (p : Plan) (the_case : Container) (outcomes : List Outcome) (a : ℕ) (r o : Outcome) → a < 32 → length outcomes ≡ 32 → r ≡ get_or outcomes a r → r ≡ o → input_by o (input_of p the_case (valuation_of outcomes) a) ≡ given_input p the_case (valuation_of outcomes) a
+given_by p the_case outcomes a r o h long is e = ap (λ (x : Outcome). input_by x (input_of p the_case (valuation_of outcomes) a)) (sym (outcome_read outcomes a a r refl (omega arith) is ∙ e))
 
 -- a list that holds what f gives for the first i numbers, with room for n, and what f gives for the next
 module _ {X : Type 0} (f : ℕ → X) (n i : ℕ) (xs ys : List X) (x : X) (so_far : xs ≡ map f (range_with_len 0 i)) (room : i < n) where

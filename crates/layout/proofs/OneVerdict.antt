@@ -109,6 +109,25 @@ told bs (Extra at) r =
       answer_is = ap (λ k. answer [] (drop at bs) k) (ap length r.encode_is ∙ length-take-le at bs (omega (arith, r.more))) ∙ answer_extra (drop at bs) at (omega (arith, r.more));
     }
 
+-- records of equal numbers are equal
+activity_of : ℕ → ℕ → ℕ → Activity
+activity_of operation priority flags = record { operation = operation; priority = priority; flags = flags }
+
+activity_made : {o p f o' p' f' : ℕ} → o ≡ o' → p ≡ p' → f ≡ f' → activity_of o p f ≡ activity_of o' p' f'
+activity_made x y z = cc
+
+link_of : ℕ → ℕ → Link
+link_of source target = record { source = source; target = target }
+
+link_made : {s t s' t' : ℕ} → s ≡ s' → t ≡ t' → link_of s t ≡ link_of s' t'
+link_made x y = cc
+
+connector_of : ℕ → ℕ → ℕ → ℕ → ℕ → Connector
+connector_of target target_field kind source source_field = record { target = target; target_field = target_field; kind = kind; source = source; source_field = source_field }
+
+connector_made : {t u k s v t' u' k' s' v' : ℕ} → t ≡ t' → u ≡ u' → k ≡ k' → s ≡ s' → v ≡ v' → connector_of t u k s v ≡ connector_of t' u' k' s' v'
+connector_made a b c d e = cc
+
 -- records with equal bytes are equal, since their numbers are those that the bytes give
 activity_same : (a b : Activity) → activity_bytes a ≡ activity_bytes b → a ≡ b
 activity_same a b e =

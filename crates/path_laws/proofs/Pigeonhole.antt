@@ -1,18 +1,58 @@
 -- A list of fewer than n numbers leaves out one below n, and n different ones below n are all of them.
-use Rattle.std.proofs.Common.{◌≡◌, ◌≢◌, ℕ, zero, suc, ◌<◌, true, not, eqb, List, ◌∷◌, length, get_or, Some, None, Option, sym, ap, ◌∙◌, ⊎_elim, arith}
+use Rattle.std.proofs.Common.{◌≡◌, ◌≢◌, ℕ, zero, suc, ◌+◌, ◌<◌, ◌≤◌, Bool, true, false, not, eqb, List, ◌∷◌, length, get_or, set, replicate, Some, None, Option, sym, ap, ◌∙◌, ⊎_elim, arith}
 use Rattle.std.specs.List.{AllPairs, list_any}
-use Rattle.std.proofs.lemmas.List.{get_or_default}
+use Rattle.std.proofs.lemmas.List.{get_or_default, get_or-set_same, length-replicate, length-set}
 use Rattle.std.proofs.lemmas.List.Folds.{list_any_at}
 use Rattle.std.proofs.lemmas.Map.Made.{IsDistinct-from_AllPairs}
 use Rattle.std.proofs.lemmas.Map.Steps.{length-le_from_distinct_below, le-length_from_below}
 use Rattle.std.proofs.lemmas.Map.Views.{Contains-from_any}
-use Rattle.std.proofs.lemmas.Bool.{cases_Bool, both_ways, eq-eqb, eqb-true}
+use Rattle.std.proofs.lemmas.Bool.{cases_eq, cases_Bool, both_ways, eq-eqb, eqb-true}
 use Rattle.std.proofs.lemmas.Bool.Decides.{Decides-eqb, not_from_Decides}
+use Rattle.path_laws.specs.Marks.{marked, unmarked}
 use Rattle.path_laws.specs.Ranks.{Listed, lists, least_below}
 use Rattle.path_laws.proofs.Listing.{lists_decides}
+use Rattle.path_laws.proofs.Marks.{none_marked, all_unmarked, mark_fewer, mark_one_fewer, marked_more, marked_kept}
 use Rattle.path_laws.proofs.WorkedOut.{Found, found}
 
 module _ (xs : List ℕ) (n : ℕ) where
+  -- the marks that the first i make on n places
+  abbrev marks : ℕ → List Bool
+  marks zero = replicate n false
+  marks (suc i) = set (marks i) (get_or xs i 0) true
+
+  length_marks : (i : ℕ) → length (marks i) ≡ n
+  length_marks zero = length-replicate n false
+  length_marks (suc i) = length-set (marks i) (get_or xs i 0) true ∙ length_marks i
+
+  marked_stands : (i a : ℕ) → marked (marks i) a ≡ true → (k : ℕ) × (k < i) × (get_or xs k 0 ≡ a)
+  marked_stands zero a m = absurd (both_ways _ (none_marked n a) m)
+  marked_stands (suc i) a m =
+      ⊎_elim
+      (λ e. (i, omega arith, sym e))
+      (λ ne. let r = marked_stands i a (marked_more (marks i) (get_or xs i 0) a m ne) in (r.0, omega (arith, r.1), r.2))
+      (cases_eq a (get_or xs i 0))
+
+  stands_marked : (i k : ℕ) → k < i → get_or xs k 0 < n → marked (marks i) (get_or xs k 0) ≡ true
+  stands_marked zero k l w = absurd (omega arith)
+  stands_marked (suc i) k l w =
+      ⊎_elim
+      (λ e. rw e (get_or-set_same (marks i) (get_or xs i 0) true false (omega (arith, length_marks i, ap (λ j. get_or xs j 0) e))))
+      (λ ne. marked_kept (marks i) (get_or xs i 0) (get_or xs k 0) (omega (arith, length_marks i)) (stands_marked i k (omega arith) w))
+      (cases_eq k i)
+
+  at_most : (i : ℕ) → n ≤ unmarked (marks i) + i
+  at_most zero = omega (arith, all_unmarked n)
+  at_most (suc i) = omega (arith, at_most i, mark_one_fewer (marks i) (get_or xs i 0))
+
+  -- different numbers below n are marked one by one
+  module _ (below : (i : ℕ) → i < n → get_or xs i 0 < n) (once : (i j : ℕ) → i < j → j < n → get_or xs i 0 ≡ get_or xs j 0 → ⊥) where
+    fresh : (i : ℕ) → i < n → marked (marks i) (get_or xs i 0) ≡ false
+    fresh i l = ⊎_elim (λ t. let r = marked_stands i (get_or xs i 0) t in absurd (once r.0 i r.1 l r.2)) (λ f. f) (cases_Bool (marked (marks i) (get_or xs i 0)))
+
+    exactly : (i : ℕ) → i ≤ n → unmarked (marks i) + i ≡ n
+    exactly zero l = omega (arith, all_unmarked n)
+    exactly (suc i) l = omega (arith, exactly i (omega arith), mark_fewer (marks i) (get_or xs i 0) (omega (arith, length_marks i, below i (omega arith))) (fresh i (omega arith)))
+
   left_out : (o : Option ℕ) → Found (λ a. not (lists xs a)) n o → length xs < n → (a : ℕ) × (a < n) × (Listed xs a → ⊥)
   left_out (Some a) f few = (a, f.0, λ h. both_ways (not (lists xs a)) (ap not ((lists_decides xs a).1 h)) f.1)
   left_out None f few =
