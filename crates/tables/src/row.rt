@@ -45,6 +45,8 @@ impl Record for Row {
 
 impl Row {
     /// A row for the places of a table that are not in use.
+    // Not inlined: a row whose fields are known is copied to the places of a table in parts, which takes longer.
+    #[inline(never)]
     pub(crate) fn unused() -> Row {
         Row {
             operation: 0,
